@@ -1,0 +1,5 @@
+pub mod Compare
+pub mod Product
+pub mod Put
+pub mod Signed
+pub mod Word

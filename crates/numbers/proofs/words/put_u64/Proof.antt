@@ -1,0 +1,47 @@
+-- `numbers::words::put_u64` meets its contract: the lower four bytes, and behind them the upper four.
+-- Assumes nothing.
+use borrow.Author.Needs.{needs}
+use Prim.Native.Nat.{ℕ, _+_, _/_}
+use mathlib.Core.Path.{ap, _∙_}
+use mathlib.Core.List.{List}
+use denote.Ref.{now}
+use Rattle.numbers.specs.Bytes.{put, bytesOf}
+use Rattle.numbers.proofs.Word.{two-words}
+use Rattle.numbers.proofs.words.put_u64.Statement.{statement}
+use Rattle.numbers.proofs.words.put_u64.Tie as tie
+
+cast-put-u32 : tie.Need-cast-put-u32
+cast-put-u32 c = search needs
+
+put-u32-requires : tie.Need-put-u32-requires
+put-u32-requires c κs = search needs
+
+add-put-u32 : tie.Need-add-put-u32
+add-put-u32 c = search needs
+
+cast-put-u32-2 : tie.Need-cast-put-u32-2
+cast-put-u32-2 c = search needs
+
+put-u32-requires-2 : tie.Need-put-u32-requires-2
+put-u32-requires-2 c κs = search needs
+
+same-length : tie.Need-same-length
+same-length c = search needs
+
+returns : tie.Need-returns
+returns c =
+    let a = c .before .before .before .before .before .before .before .before .before in
+    c .before .before .put-u322 .ensures ∙ ap (λ (l : List ℕ). put l (a .args .at + 4) (bytesOf 4 (a .args .x / 4294967296))) (c .before .before .before .before .before .before .put-u32 .ensures)
+    ∙ two-words (now (a .args .s)) (a .args .at) (a .args .x) (a .pre)
+
+pub put-u64-spec : {M : Type 1} → statement M
+put-u64-spec =
+    tie.close
+    (tie.spec
+    cast-put-u32
+    put-u32-requires
+    add-put-u32
+    cast-put-u32-2
+    put-u32-requires-2
+    same-length
+    returns)

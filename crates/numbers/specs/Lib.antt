@@ -1,0 +1,2 @@
+pub mod Age
+pub mod Bytes
