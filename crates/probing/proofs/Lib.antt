@@ -1,0 +1,17 @@
+pub mod Keys
+pub mod Round
+pub mod Counting
+pub mod Reading
+pub mod Checks
+pub mod Change
+pub mod Place
+pub mod Placed
+pub mod Delete
+pub mod Insert
+pub mod Rebuild
+pub mod Away
+pub mod Stretch
+pub mod Flow
+pub mod SumLaw
+pub mod Homes
+pub mod Witness

@@ -1,0 +1,9 @@
+pub mod Counting
+pub mod Table
+pub mod Probe
+pub mod Check
+pub mod Sound
+pub mod Change
+pub mod Overflow
+pub mod Flow
+pub mod Homes
