@@ -1,0 +1,5 @@
+pub mod Header
+pub mod Linear
+pub mod Pieces
+pub mod Table
+pub mod Xor

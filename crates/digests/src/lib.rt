@@ -1,0 +1,3 @@
+// FNV-1a of 64 bits and CRC32-C.
+pub mod crc;
+pub mod fnv;
