@@ -1,17 +1,18 @@
--- Signed numbers moved up by 2 ^ 63, and the difference of two of them.
+-- Signed numbers moved up by 2 ^ 63, the difference of two of them, and words as signed numbers.
 -- Assumes nothing.
 use Prim.Native.Nat.{ℕ, zero, suc, _+_, _-_, _<_, _≤_}
 use mathlib.Core.Bool.{true, false, true≢false}
 use mathlib.Core.Path.{_≡_, refl, sym, ap, ap₂, _∙_}
 use native.Mathlib.Omega.{arith}
-use native.Mathlib.Nat.{not-suc-le-zero}
+use native.Mathlib.Nat.{not-suc-le-zero, zero-add}
 use borrow.Author.Tests.{lt-ltb, le-ltb, ltb-true}
 use lib.IntN.{ℤ, pos, negsuc, negℤ, subℕ, _+ℤ_, _-ℤ_, +ℤ-assoc, +ℤ-comm, +ℤ-negℤ-cancel, negℤ-+ℤ}
 use lib.Signed.{ltZ}
-use mir.Facts.{toZ-ofZ}
+use mir.Facts.{toZ-ofZ, toZ-pos}
 use mir.Syntax.{w64}
 use mir.Val.{SFits, toZ, ofZ}
 use Rattle.numbers.specs.Age.{byDifference, ageOf}
+use Rattle.numbers.specs.Signed.{signed}
 use Rattle.numbers.specs.declared.age.Order.the-variants.{Older, Same, Newer}
 
 sub-pos : (a b : ℕ) → pos a -ℤ pos b ≡ subℕ a b
@@ -78,3 +79,22 @@ natural x fits t = sign x fits (rw (toZ-ofZ {w = w64} {z = x} fits) at t) (toZ-o
         → (n : ℕ) × (n < 9223372036854775808) × (pos (n + 9223372036854775808) ≡ x +ℤ pos 9223372036854775808) × (toZ w64 (ofZ w64 x) ≡ pos n)
     sign (pos n) fits t e = (n, fits .sfits, refl, e)
     sign (negsuc n) fits t e = absurd (true≢false t)
+
+-- a word below 2 ^ 63 is itself
+pub below-half : (x : ℕ) → x < 9223372036854775808 → toZ w64 x ≡ signed x
+unfolding signed
+below-half x l = toZ-pos w64 l ∙ rw (lt-ltb x 9223372036854775808 l)
+
+less-one : (n : ℕ) → negsuc 0 -ℤ pos n ≡ negsuc n
+less-one zero = refl
+less-one (suc n) = ap (λ (k : ℕ). negsuc (suc k)) (zero-add n)
+
+-- from 2 ^ 63 on a word is at −1 less what is left to all ones
+pub from-half : (x : ℕ) → 9223372036854775808 ≤ x → negsuc 0 -ℤ toZ w64 (18446744073709551615 - x) ≡ signed x
+unfolding signed
+from-half x l =
+    rw (le-ltb x 9223372036854775808 l, toZ-pos w64 {n = 18446744073709551615 - x} (omega arith)) (less-one (18446744073709551615 - x))
+
+pub signed-fits : (x : ℕ) → 9223372036854775808 ≤ x → SFits w64 (signed x)
+unfolding signed
+signed-fits x l = rw (le-ltb x 9223372036854775808 l) (record { sfits = omega arith })

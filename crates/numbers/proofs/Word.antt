@@ -36,7 +36,8 @@ unfolding bytesOf
 bytes-add zero m x = rw (zero-add, div-one) refl
 bytes-add (suc n) m x = rw (suc-add, pow-succ', ← div-div-eq-div-mul x 256) (ap (λ (l : List ℕ). x % 256 ∷ l) (bytes-add n m (x / 256)))
 
-pow-pos : (n : ℕ) → zero < 256 ^ n
+-- powers of 256 are positive
+pub pow-pos : (n : ℕ) → zero < 256 ^ n
 pow-pos zero = lit< tt
 pow-pos (suc n) = rw pow-suc (omega (arith, pow-pos n))
 

@@ -1,8 +1,9 @@
-// Little-endian words in byte slices, and the product that keeps the low 64 bits.
+// Little-endian words in byte slices, a word as a signed number, and the product that keeps the low 64 bits.
 ghost use mathlib.Core.Path.{_≡_};
 ghost use Prim.Native.Nat.{_+_, _*_, _%_, _^_, _<_, _≤_};
 ghost use lib.ListN.{length};
 ghost use Rattle.numbers.specs.Bytes.{part, word, bytesOf, put};
+ghost use Rattle.numbers.specs.Signed.{signed};
 
 // A byte as a wide number.
 pub fn wide(x: u8) -> u64
@@ -31,6 +32,16 @@ pub fn u64_at(s: &[u8], at: usize) -> u64
     let low = u32_at(s, at);
     let high = u32_at(s, at + 4);
     (low as u64) + 4294967296 * (high as u64)
+}
+
+// A word as a signed number: from 2^63 on it is negative, and all ones is -1.
+pub fn signed_of(x: u64) -> i64
+    ensures { λ r. ⌜ r ≡ signed x ⌝ }
+{
+    if x < 9223372036854775808 {
+        return x as i64;
+    }
+    -1 - ((18446744073709551615 - x) as i64)
 }
 
 // Puts the four bytes of a word at an offset.

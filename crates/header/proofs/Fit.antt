@@ -1,0 +1,105 @@
+-- What a judgement says: of an image that fits its shape and all that later code relies on, of a refused one its number.
+-- Assumes nothing.
+use Prim.Native.Nat.{ℕ, zero, suc, _^_, _≤_, _<_}
+use mathlib.Core.Bool.{true}
+use mathlib.Core.Path.{_≡_, refl}
+use mathlib.Core.List.{List}
+use native.Mathlib.Omega.{arith}
+use lib.Dec.{eqb}
+use lib.ListN.{length}
+use Rattle.header.specs.declared.options.Options.{Options}
+use Rattle.header.specs.declared.shape.Shape.{Shape}
+use Rattle.header.specs.declared.shape.Judged.the-variants.{Fit, Refused}
+use Rattle.header.specs.HeaderTest.{headerTest, shapeOf, verdict, judged}
+use Rattle.header.specs.Shaped.{Shaped}
+use Rattle.header.specs.Sizes.{sizesAllowed, bucketCount}
+use Rattle.header.proofs.Allowed.{allowed}
+use Rattle.header.proofs.Said.{Agreed, agreed, ruled, allowed-passed, length-passed, extent-passed, counters-passed}
+use Rattle.header.proofs.SizeLaws.{bucket-count-room, bucket-count-limit}
+use Rattle.header.proofs.Stages.{Passes, passes}
+
+-- by the header test's number
+verdict-fit : (n : ℕ) (s t : Shape) → verdict n t ≡ Fit s → (n ≡ 0) × (s ≡ t)
+verdict-fit zero s t e = (refl, cc)
+verdict-fit (suc n) s t e = (let z : _≡_ {A = ℕ} 0 1 = cc in omega arith, cc)
+
+verdict-refused : (n m : ℕ) (t : Shape) → verdict n t ≡ Refused m → (n ≡ m) × (0 < m)
+verdict-refused zero m t e = let z : _≡_ {A = ℕ} 0 1 = cc in (omega arith, omega arith)
+verdict-refused (suc n) m t e = let z : suc n ≡ m = cc in (z, omega arith)
+
+pub judged-fit : (o : Options) (image : List ℕ) → headerTest o image ≡ 0 → judged o image ≡ Fit (shapeOf image)
+unfolding judged
+judged-fit o image z = rw z refl
+
+pub judged-refused : (o : Options) (image : List ℕ) (n : ℕ) → headerTest o image ≡ n → (n ≡ 0 → ⊥) → judged o image ≡ Refused n
+unfolding judged
+judged-refused o image zero e h = absurd (h refl)
+judged-refused o image (suc n) e h = rw e refl
+
+-- a refused image is refused with the header test's number, which is not 0
+pub refused-number : (o : Options) (image : List ℕ) (n : ℕ) → judged o image ≡ Refused n → (headerTest o image ≡ n) × (0 < n)
+unfolding judged
+refused-number o image n e = verdict-refused (headerTest o image) n (shapeOf image) e
+
+module _ (o : Options) (image : List ℕ) (s : Shape) (fit : judged o image ≡ Fit s) where
+  pub fit-number : headerTest o image ≡ 0
+  unfolding judged
+  fit-number = verdict-fit (headerTest o image) s (shapeOf image) fit .0
+
+  pub fit-shape : s ≡ shapeOf image
+  unfolding judged
+  fit-shape = verdict-fit (headerTest o image) s (shapeOf image) fit .1
+
+  passed : Passes o image
+  passed = passes o image fit-number
+
+  pub fit-allowed : sizesAllowed o ≡ true
+  fit-allowed = allowed-passed o (passed .first)
+
+  pub fit-length : 256 ≤ length image
+  fit-length = length-passed image (passed .second)
+
+  says : Agreed o image
+  says = agreed o image (passed .eighth)
+
+  -- the shape's sizes are the options'
+  pub fit-key-size : s .«key_size» ≡ o .«key_size»
+  unfolding shapeOf
+  fit-key-size = rw fit-shape (says .key)
+
+  pub fit-index-size : s .«index_size» ≡ o .«index_size»
+  unfolding shapeOf
+  fit-index-size = rw fit-shape (says .index)
+
+  pub fit-slot-capacity : s .«slot_capacity» ≡ o .«slot_capacity»
+  unfolding shapeOf
+  fit-slot-capacity = rw fit-shape (says .capacity)
+
+  pub fit-ordered : s .ordered ≡ eqb (o .ordered) 1
+  unfolding shapeOf
+  fit-ordered = rw (fit-shape, says .flag) refl
+
+  pub fit-bucket-count : s .«bucket_count» ≡ bucketCount (o .«slot_capacity»)
+  unfolding shapeOf
+  fit-bucket-count = rw fit-shape (ruled o image (passed .ninth))
+
+  -- a slot number, and a bucket number, has 32 bits
+  pub fit-small : s .«bucket_count» ≤ 2 ^ 32
+  fit-small =
+      let h = allowed o fit-allowed in
+      rw fit-bucket-count (bucket-count-limit (o .«slot_capacity») (h .capacity-low) (h .capacity-high))
+
+  pub fit-shaped : Shaped s image
+  unfolding shapeOf
+  fit-shaped =
+      let h = allowed o fit-allowed in
+      let room = bucket-count-room (o .«slot_capacity») (h .capacity-low) (h .capacity-high) in
+      record {
+        slot = rw fit-shape (rw (says .key, says .index) (says .slot));
+        offset = rw fit-shape (extent-passed image (passed .tenth) .0);
+        inside = rw fit-shape (extent-passed image (passed .tenth) .1);
+        counters = rw fit-shape (counters-passed image (passed .eleventh) .0);
+        highwater = rw fit-shape (counters-passed image (passed .eleventh) .1);
+        room = rw (fit-slot-capacity, fit-bucket-count) room;
+        small = fit-small;
+      }

@@ -1,0 +1,11 @@
+pub mod After
+pub mod Allowed
+pub mod Counters
+pub mod FieldBytes
+pub mod Firsts
+pub mod Fit
+pub mod Power
+pub mod Said
+pub mod SizeLaws
+pub mod Stages
+pub mod Table

@@ -1,0 +1,9 @@
+// The SLC1 header: its fields, the sizes that follow from it, and the header test.
+pub mod answer;
+pub mod fields;
+pub mod judge;
+pub mod open;
+pub mod options;
+pub mod shape;
+pub mod sizes;
+mod tests;

@@ -1,0 +1,7 @@
+pub mod FullCheck
+pub mod Judging
+pub mod Looked
+pub mod Passes
+pub mod Places
+pub mod Steps
+pub mod Tally

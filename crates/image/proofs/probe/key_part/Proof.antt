@@ -1,0 +1,50 @@
+-- `image::probe::key_part` meets its contract.
+-- Assumes nothing.
+use borrow.Author.Needs.{needs}
+use mathlib.Core.Path.{refl, ap, _∙_}
+use native.Mathlib.Omega.{arith}
+use Prim.Native.Nat.{ℕ, _+_, _≤_}
+use lib.ListN.{length}
+use Rattle.numbers.specs.Bytes.{part}
+use Rattle.image.specs.Table.{keyAt, keyOf}
+use Rattle.image.proofs.Places.{range-part, key-inside}
+use Rattle.image.proofs.probe.key_part.Statement.{statement}
+use Rattle.image.proofs.probe.key_part.Tie as tie
+
+inside : (c : tie.Start) → keyAt (c .args .s) (c .args .n) + c .args .s .«key_size» ≤ length (c .args .image .now)
+inside c = key-inside (c .args .s) (c .args .image .now) (c .pre .0) (c .args .n) (c .pre .1)
+
+slot-at-requires : tie.Need-slot-at-requires
+unfolding keyAt
+slot-at-requires c κs = omega (arith, inside (c .before))
+
+add-at : tie.Need-add-at
+unfolding keyAt
+add-at c = omega (arith, c .slot-at .ensures, inside (c .before .before))
+
+add-end : tie.Need-add-end
+unfolding keyAt
+add-end c = omega (arith, c .before .slot-at .ensures, inside (c .before .before .before))
+
+sub-result : tie.Need-sub-result
+sub-result c = search needs
+
+part-result-start : tie.Need-part-result-start
+part-result-start c = search needs
+
+part-result-end : tie.Need-part-result-end
+unfolding keyAt
+part-result-end c = omega (arith, c .before .slot-at .ensures, inside (c .before .before .before))
+
+returns : tie.Need-returns
+unfolding keyOf keyAt
+returns c =
+    let a = c .before .before .before .before .args in
+    let at = c .before .before .slot-at in
+    range-part (a .image .now) (at .result + 8) _ (a .s .«key_size») refl
+    ∙ ap (λ (x : ℕ). part (a .image .now) (x + 8) (a .s .«key_size»)) (at .ensures)
+
+pub key-part-spec : {M : Type 1} → statement M
+key-part-spec =
+    tie.close
+    (tie.spec slot-at-requires add-at add-end sub-result part-result-start part-result-end returns)

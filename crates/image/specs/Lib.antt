@@ -1,0 +1,5 @@
+pub mod Check
+pub mod Lookup
+pub mod Step
+pub mod Table
+pub mod Tally

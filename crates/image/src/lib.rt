@@ -1,0 +1,4 @@
+// An SLC1 image read: lookup and the full check.
+pub mod check;
+pub mod lookup;
+pub mod probe;
