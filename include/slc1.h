@@ -1,8 +1,12 @@
 /* slc1.h: SLC1 slot caches, for a host in C.
  *
- * Every call takes plain numbers and byte slices and gives back one number. A slice is a pointer and a length; the
- * pointer is never NULL, also where the length is 0. Nothing is kept between calls: what is lent is the caller's own
- * again when the call returns. No call allocates, blocks or fails otherwise than by the number that it gives back.
+ * An image is the bytes of one cache: a header, then slots, then buckets. The caller lends it to each call, with the
+ * options that it should have, and gets one number back. A call that has several results has a function for each, and
+ * each of these does the whole work.
+ *
+ * A slice is a pointer and a length; the pointer is never NULL, also where the length is 0. Slices lent to one call do
+ * not overlap where one of them is written. Nothing is kept between calls: what is lent is the caller's own again when
+ * the call returns. No call allocates, blocks or fails otherwise than by the number that it gives back.
  */
 #ifndef SLC1_H
 #define SLC1_H
@@ -14,17 +18,147 @@
 extern "C" {
 #endif
 
-/* The FNV-1a hash of 64 bits: the hash64 of a key. */
-uint64_t slc1_fnv1a64(const uint8_t *bytes, size_t length);
+/* What a call answers. With any number but SLC1_DONE every lent byte is left alone, and every other result is 0, save
+ * that the number of buckets comes with SLC1_NOT_PRESENT too. */
+enum {
+    SLC1_DONE = 0,          /* done, or found */
+    SLC1_NEEDS_REBUILD = 1, /* damaged, or left dirty by a writer */
+    SLC1_INCOMPATIBLE = 2,  /* another format, or other options */
+    SLC1_INVALIDATED = 3,   /* the image was given up on purpose */
+    SLC1_BUSY = 4,          /* another writer is active */
+    SLC1_FULL = 5,          /* no slots left for the new keys */
+    SLC1_OUT_OF_ORDER = 6,  /* a new key below the last of an ordered image */
+    SLC1_INVALID_INPUT = 7, /* options, key, pattern or batch that no call takes */
+    SLC1_NOT_PRESENT = 9,   /* the key is not there */
+    SLC1_CREATE_IT = 10,    /* an image of length 0 */
+    SLC1_TOO_SHORT = 11     /* a lent output that is too short; nothing was written */
+};
 
-/* The CRC32-C (Castagnoli) of bytes. */
-uint32_t slc1_crc32c(const uint8_t *bytes, size_t length);
+/* What the caller knows of writers. */
+enum {
+    SLC1_NO_WRITER_KNOWN = 0,
+    SLC1_ANOTHER_WRITER = 1,
+    SLC1_LOCK_HELD = 2 /* and held since the image became dirty, if it is */
+};
+
+/* The options. Calls take them as six numbers, which SLC1_OPTIONS spells out:
+ *     slc1_full_check(image, length, SLC1_OPTIONS(&options)) */
+typedef struct slc1_options {
+    uint64_t key_size;      /* 1 to 64 bytes */
+    uint64_t index_size;    /* 0 to 256 bytes */
+    uint64_t slot_capacity; /* 1 to 4096 slots */
+    uint64_t user_version;  /* any number */
+    uint64_t ordered;       /* 0, or 1: keys never fall */
+    uint64_t role;          /* 0, 1 or 2, as above */
+} slc1_options;
+
+#define SLC1_OPTIONS(o) \
+    (o)->key_size, (o)->index_size, (o)->slot_capacity, (o)->user_version, (o)->ordered, (o)->role
+
+/* The six numbers in the declarations below. */
+#define SLC1_SIX_NUMBERS \
+    uint64_t key_size, uint64_t index_size, uint64_t slot_capacity, uint64_t user_version, uint64_t ordered, uint64_t role
+
+/* Sizes and places. 0 where the options are out of range, or slot is not below slot_capacity. */
+
+/* The number of bytes of an image. A longer one may be lent; bytes past these are never read or changed. */
+uint64_t slc1_total_size(SLC1_SIX_NUMBERS);
+
+/* Where in the image the key_size bytes of a slot's key begin. */
+uint64_t slc1_key_offset(SLC1_SIX_NUMBERS, uint64_t slot);
+
+/* Where in the image the index_size bytes of a slot's index begin. */
+uint64_t slc1_index_offset(SLC1_SIX_NUMBERS, uint64_t slot);
+
+/* Open check. */
+
+/* Whether the image can be used: 0, 1, 2, 3, 4, 7 or 10. Every call below that is lent an image makes this test first,
+ * and answers its number where that is not 0. */
+uint32_t slc1_open_check(const uint8_t *image, size_t length, SLC1_SIX_NUMBERS);
+
+/* The caller's own flags, from the header. 0 where the open check does not give 0. */
+uint64_t slc1_user_flags(const uint8_t *image, size_t length, SLC1_SIX_NUMBERS);
+
+/* Writes the caller's own 64 bytes, from the header, to the start of out. 11 where out is shorter than that. */
+uint32_t slc1_user_data(const uint8_t *image, size_t length, SLC1_SIX_NUMBERS, uint8_t *out, size_t out_length);
+
+/* Lookup of a key. */
+
+/* 0 found, 9 not present, 1 where the probe runs into damage, 7 where key_length is not key_size. */
+uint32_t slc1_lookup(const uint8_t *image, size_t length, SLC1_SIX_NUMBERS, const uint8_t *key, size_t key_length);
+
+/* The slot of a key that is found: its index stands at slc1_index_offset. */
+uint64_t slc1_lookup_slot(const uint8_t *image, size_t length, SLC1_SIX_NUMBERS, const uint8_t *key, size_t key_length);
+
+/* The revision of a key that is found. */
+int64_t slc1_lookup_revision(const uint8_t *image, size_t length, SLC1_SIX_NUMBERS, const uint8_t *key, size_t key_length);
+
+/* The number of buckets examined, the last included, for a key that is found or not present. */
+uint64_t slc1_lookup_buckets(const uint8_t *image, size_t length, SLC1_SIX_NUMBERS, const uint8_t *key, size_t key_length);
+
+/* Full check: the header, every slot and every bucket. */
+
+/* 0 where everything fits together, else 1. */
+uint32_t slc1_full_check(const uint8_t *image, size_t length, SLC1_SIX_NUMBERS);
+
+/* The number of live slots. */
+uint64_t slc1_full_check_live(const uint8_t *image, size_t length, SLC1_SIX_NUMBERS);
+
+/* The number of buckets that deleted keys have left behind. */
+uint64_t slc1_full_check_tombstones(const uint8_t *image, size_t length, SLC1_SIX_NUMBERS);
+
+/* The sum of slc1_lookup_buckets over the live keys. */
+uint64_t slc1_full_check_probes(const uint8_t *image, size_t length, SLC1_SIX_NUMBERS);
+
+/* Scan: the live slots, ascending. The first skip of them are left out, and at most limit are written to numbers, a list
+ * of count entries. Entries past those written are unchanged. Each of the three functions fills the list. */
+
+/* 0, or 11 where the list is shorter than the number of slots to write. */
+uint32_t slc1_scan(
+    const uint8_t *image, size_t length, SLC1_SIX_NUMBERS, uint64_t skip, uint64_t limit, uint32_t *numbers, size_t count);
+
+/* The number of all live slots, those left out included. */
+uint64_t slc1_scan_total(
+    const uint8_t *image, size_t length, SLC1_SIX_NUMBERS, uint64_t skip, uint64_t limit, uint32_t *numbers, size_t count);
+
+/* The number of entries written. */
+uint64_t slc1_scan_written(
+    const uint8_t *image, size_t length, SLC1_SIX_NUMBERS, uint64_t skip, uint64_t limit, uint32_t *numbers, size_t count);
+
+/* Match: as scan, for the live slots in whose key, from a byte offset on, the first bits are those of the pattern; the
+ * most significant bit of a byte comes first. The pattern has (bits + 7) / 8 bytes; spare bits of its last byte are
+ * ignored. */
+
+/* 0, or 11 as with scan; 7 where bits is 0, the pattern has another length, or it runs past the key. */
+uint32_t slc1_match(
+    const uint8_t *image, size_t length, SLC1_SIX_NUMBERS, uint64_t offset, uint64_t bits, const uint8_t *pattern,
+    size_t pattern_length, uint64_t skip, uint64_t limit, uint32_t *numbers, size_t count);
+
+/* The number of all slots that match, those left out included. */
+uint64_t slc1_match_total(
+    const uint8_t *image, size_t length, SLC1_SIX_NUMBERS, uint64_t offset, uint64_t bits, const uint8_t *pattern,
+    size_t pattern_length, uint64_t skip, uint64_t limit, uint32_t *numbers, size_t count);
+
+/* The number of entries written. */
+uint64_t slc1_match_written(
+    const uint8_t *image, size_t length, SLC1_SIX_NUMBERS, uint64_t offset, uint64_t bits, const uint8_t *pattern,
+    size_t pattern_length, uint64_t skip, uint64_t limit, uint32_t *numbers, size_t count);
+
+/* Revision age. */
 
 /* How the second revision stands against the first: -1 older, 0 the same, 1 newer. */
 int32_t slc1_revision_order(int64_t first, int64_t second);
 
 /* The exact distance between two revisions, over the whole range. */
 uint64_t slc1_revision_distance(int64_t first, int64_t second);
+
+/* Digests. */
+
+/* The FNV-1a hash of 64 bits: the hash64 of a key. */
+uint64_t slc1_fnv1a64(const uint8_t *bytes, size_t length);
+
+/* The CRC32-C (Castagnoli) of bytes. */
+uint32_t slc1_crc32c(const uint8_t *bytes, size_t length);
 
 #ifdef __cplusplus
 }

@@ -5,48 +5,107 @@ usage: compare.py [SEED]
 
 import random
 import sys
+import time
+from copy import copy
 
 import native
 import second
+from images import Images
 
 
 class Comparison:
     def __init__(self, seed):
         self.random = random.Random(seed)
+        self.images = Images(self.random)
         self.calls = 0
 
     def same(self, name, *arguments):
-        """Makes a call of both; ends the run where they differ."""
-        ours, theirs = getattr(native, name)(*arguments), getattr(second, name)(*arguments)
+        """Makes a call of both; ends the run where the answers, or what was lent, differ afterwards."""
+        self.equal(name, arguments, *(self.made(program, name, arguments) for program in (native, second)))
+
+    def equal(self, name, arguments, ours, theirs):
         self.calls += 1
         if ours != theirs:
-            sys.exit(f"{name}{arguments}: the library answers {ours}, the second program {theirs}")
+            sys.exit(f"{name}{arguments}\nthe library:        {ours}\nthe second program: {theirs}")
 
-    def bytes(self, most):
-        return self.random.randbytes(self.random.randrange(most + 1))
+    def made(self, program, name, arguments):
+        own = [copy(argument) if isinstance(argument, (list, bytearray)) else argument for argument in arguments]
+        answer = getattr(program, name)(*own)
+        return answer, [argument for argument in own if isinstance(argument, (list, bytearray))]
 
-    def revision(self):
-        near = self.random.choice((-(2**63), -1, 0, 1, 2**63 - 1, self.random.randrange(-(2**63), 2**63)))
-        return min(max(near + self.random.randrange(-2, 3), -(2**63)), 2**63 - 1)
+    def number(self, most):
+        """A small number, or one from far out of range."""
+        return self.random.choice((0, 1, most, self.random.randrange(most + 2), 2**32, 2**63, 2**64 - 1))
 
 
 def digests(comparison):
-    for _ in range(40000):
-        comparison.same("fnv1a64", comparison.bytes(80))
-        comparison.same("crc32c", comparison.bytes(80))
+    for _ in range(30000):
+        comparison.same("fnv1a64", comparison.random.randbytes(comparison.random.randrange(81)))
+        comparison.same("crc32c", comparison.random.randbytes(comparison.random.randrange(81)))
 
 
 def ages(comparison):
     for _ in range(40000):
-        comparison.same("revision_age", comparison.revision(), comparison.revision())
+        comparison.same("revision_age", comparison.images.revision(), comparison.images.revision())
+
+
+def places(comparison):
+    """The sizes and places that a host asks for; 0 where the options, or the slot, are out of range."""
+    for _ in range(20000):
+        o = comparison.images.asked(comparison.images.options())
+        slot = comparison.number(o.slot_capacity % 2**16)
+        total = second.total_size(o) if second.options_fit(o) else 0
+        at = 256 + slot * second.slot_size(o) if total and slot < o.slot_capacity else None
+        index = at + second.revision_offset(o) + 8 if at else 0
+        comparison.equal("places", (o, slot), native.places(o, slot), (total, at + 8 if at else 0, index))
+
+
+def lookups(comparison, image, o):
+    comparison.same("lookup", image, o, comparison.images.key(o) if 0 < o.key_size <= 80 else b"")
+    if comparison.random.random() < 0.2:
+        comparison.same("lookup", image, o, comparison.random.randbytes(comparison.random.randrange(81)))
+
+
+def pattern(comparison, o):
+    """Offset, bits and pattern: mostly right, taken from a likely key."""
+    pick = comparison.random
+    key = comparison.images.key(o) if 0 < o.key_size <= 80 else b"\0"
+    offset, bits = pick.randrange(len(key)), pick.randrange(1, 20)
+    if pick.random() < 0.1:
+        offset, bits = comparison.number(o.key_size), comparison.number(20)
+    needed = min((bits + 7) // 8, 80) + (pick.choice((-1, 1)) if pick.random() < 0.1 else 0)
+    wanted = bytearray(key[offset:offset + needed].ljust(max(needed, 0), b"\0"))
+    if wanted and pick.random() < 0.3:
+        wanted[-1] ^= 1 << pick.randrange(8)
+    return offset, bits, bytes(wanted)
+
+
+def listings(comparison, image, o):
+    numbers = [comparison.random.getrandbits(32) for _ in range(comparison.random.randrange(8))]
+    window = comparison.number(6), comparison.number(6)
+    comparison.same("scan", image, o, *window, numbers)
+    comparison.same("match", image, o, *pattern(comparison, o), *window, numbers)
+
+
+def readings(comparison):
+    for _ in range(4500):
+        o = comparison.images.options()
+        image = bytes(comparison.images.image(o))
+        for _ in range(8):
+            asked = comparison.images.asked(o)
+            comparison.same("open_check", image, asked)
+            comparison.same("full_check", image, asked)
+            lookups(comparison, image, asked)
+            listings(comparison, image, asked)
 
 
 def main():
     seed = int(sys.argv[1]) if len(sys.argv) > 1 else 1
     comparison = Comparison(seed)
-    for part in (digests, ages):
+    began = time.monotonic()
+    for part in (digests, ages, places, readings):
         part(comparison)
-    print(f"{comparison.calls} calls agree with the second program (seed {seed})")
+    print(f"{comparison.calls} calls agree with the second program (seed {seed}, {time.monotonic() - began:.0f} s)")
 
 
 if __name__ == "__main__":

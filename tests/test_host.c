@@ -1,4 +1,4 @@
-/* Calls every function of slc1.h from C. Prints what differs; its exit status is the number of differences. */
+/* Calls every function of slc1.h from C. Prints what differs; its exit status is 0 where nothing does. */
 #include <inttypes.h>
 #include <stdio.h>
 #include <string.h>
@@ -36,11 +36,161 @@ static void ages(void)
     same("newer by", slc1_revision_distance(INT64_MIN, INT64_MAX), UINT64_MAX);
 }
 
+static void sizes(void)
+{
+    const slc1_options bench = {12, 20, 512, 1, 0, SLC1_NO_WRITER_KNOWN};
+    const slc1_options small = {10, 5, 2, 1, 0, SLC1_NO_WRITER_KNOWN};
+    const slc1_options wrong = {65, 5, 2, 1, 0, SLC1_NO_WRITER_KNOWN};
+
+    same("total size", slc1_total_size(SLC1_OPTIONS(&bench)), 45312);
+    same("total size of wrong options", slc1_total_size(SLC1_OPTIONS(&wrong)), 0);
+    same("key offset", slc1_key_offset(SLC1_OPTIONS(&small), 1), 256 + 40 + 8);
+    same("key offset past the slots", slc1_key_offset(SLC1_OPTIONS(&small), 2), 0);
+    same("index offset", slc1_index_offset(SLC1_OPTIONS(&small), 1), 256 + 40 + 8 + 16 + 8);
+    same("index offset past the slots", slc1_index_offset(SLC1_OPTIONS(&small), 2), 0);
+}
+
+/* An image of 2 slots of 32 bytes at 256, and 4 buckets at 320. The keys "abg", which is deleted, and "abc" both have
+ * bucket 3 as their home; "abc" went round the end, to bucket 0. */
+enum { TOTAL = 384 };
+static uint8_t image[TOTAL];
+static const slc1_options options = {3, 5, 2, 9, 0, SLC1_NO_WRITER_KNOWN};
+
+static void put(size_t offset, size_t width, uint64_t value)
+{
+    for (size_t i = 0; i < width; i++)
+        image[offset + i] = (uint8_t)(value >> 8 * i);
+}
+
+static void lay_out(void)
+{
+    memcpy(image, "SLC1", 4);
+    put(0x04, 4, 1);   /* version */
+    put(0x08, 4, 256); /* header_size */
+    put(0x0C, 4, 3);   /* key_size */
+    put(0x10, 4, 5);   /* index_size */
+    put(0x14, 4, 32);  /* slot_size */
+    put(0x18, 4, 1);   /* hash_alg */
+    put(0x20, 8, 2);   /* slot_capacity */
+    put(0x28, 8, 2);   /* slot_highwater */
+    put(0x30, 8, 1);   /* live_count */
+    put(0x38, 8, 9);   /* user_version */
+    put(0x48, 8, 4);   /* bucket_count */
+    put(0x50, 8, 1);   /* bucket_used */
+    put(0x58, 8, 1);   /* bucket_tombstones */
+    put(0x60, 8, 256); /* slots_offset */
+    put(0x68, 8, 320); /* buckets_offset */
+    put(0x78, 8, 0x1122334455667788);
+    for (uint8_t i = 0; i < 64; i++)
+        image[0x80 + i] = i;
+    put(0x70, 4, slc1_crc32c(image, 256));
+
+    memcpy(image + 256 + 8, "abg", 3);
+    put(288, 8, 1);
+    memcpy(image + 288 + 8, "abc", 3);
+    put(288 + 16, 8, (uint64_t)-7);
+    memcpy(image + 288 + 24, "index", 5);
+    put(320, 8, 0xe71fa2190541574b); /* fnv1a64 of "abc" */
+    put(320 + 8, 8, 2);
+    put(320 + 16 * 3, 8, slc1_fnv1a64((const uint8_t *)"abg", 3));
+    put(320 + 16 * 3 + 8, 8, UINT64_MAX);
+}
+
+static void opened(void)
+{
+    const slc1_options other = {3, 5, 2, 8, 0, SLC1_NO_WRITER_KNOWN};
+    const slc1_options wrong = {3, 5, 2, 9, 0, 3};
+    uint8_t data[70];
+
+    same("open check", slc1_open_check(image, TOTAL, SLC1_OPTIONS(&options)), SLC1_DONE);
+    same("of nothing", slc1_open_check(image, 0, SLC1_OPTIONS(&options)), SLC1_CREATE_IT);
+    same("of a part", slc1_open_check(image, TOTAL - 1, SLC1_OPTIONS(&options)), SLC1_NEEDS_REBUILD);
+    same("of another version", slc1_open_check(image, TOTAL, SLC1_OPTIONS(&other)), SLC1_INCOMPATIBLE);
+    same("with role 3", slc1_open_check(image, TOTAL, SLC1_OPTIONS(&wrong)), SLC1_INVALID_INPUT);
+
+    same("user flags", slc1_user_flags(image, TOTAL, SLC1_OPTIONS(&options)), 0x1122334455667788);
+    same("user flags refused", slc1_user_flags(image, TOTAL, SLC1_OPTIONS(&other)), 0);
+
+    memset(data, 99, sizeof data);
+    same("user data, too short", slc1_user_data(image, TOTAL, SLC1_OPTIONS(&options), data, 63), SLC1_TOO_SHORT);
+    same("and refused", slc1_user_data(image, TOTAL, SLC1_OPTIONS(&other), data, 70), SLC1_INCOMPATIBLE);
+    for (size_t i = 0; i < sizeof data; i++)
+        same("user data left alone", data[i], 99);
+    same("user data", slc1_user_data(image, TOTAL, SLC1_OPTIONS(&options), data, 70), SLC1_DONE);
+    for (size_t i = 0; i < sizeof data; i++)
+        same("user data, byte by byte", data[i], i < 64 ? i : 99);
+}
+
+static void looked_up(const char *key, size_t length, uint32_t answer, uint64_t slot, int64_t revision, uint64_t buckets)
+{
+    const uint8_t *bytes = (const uint8_t *)key;
+
+    same(key, slc1_lookup(image, TOTAL, SLC1_OPTIONS(&options), bytes, length), answer);
+    same(key, slc1_lookup_slot(image, TOTAL, SLC1_OPTIONS(&options), bytes, length), slot);
+    same(key, (uint64_t)slc1_lookup_revision(image, TOTAL, SLC1_OPTIONS(&options), bytes, length), (uint64_t)revision);
+    same(key, slc1_lookup_buckets(image, TOTAL, SLC1_OPTIONS(&options), bytes, length), buckets);
+}
+
+static void lookups(void)
+{
+    looked_up("abc", 3, SLC1_DONE, 1, -7, 2);
+    looked_up("abg", 3, SLC1_NOT_PRESENT, 0, 0, 3);
+    looked_up("abc", 2, SLC1_INVALID_INPUT, 0, 0, 0);
+    same("the index of abc", (uint64_t)memcmp(image + slc1_index_offset(SLC1_OPTIONS(&options), 1), "index", 5), 0);
+    same("the key of slot 1", (uint64_t)memcmp(image + slc1_key_offset(SLC1_OPTIONS(&options), 1), "abc", 3), 0);
+}
+
+static void checked(uint32_t answer, uint64_t live, uint64_t tombstones, uint64_t probes)
+{
+    same("full check", slc1_full_check(image, TOTAL, SLC1_OPTIONS(&options)), answer);
+    same("live", slc1_full_check_live(image, TOTAL, SLC1_OPTIONS(&options)), live);
+    same("tombstones", slc1_full_check_tombstones(image, TOTAL, SLC1_OPTIONS(&options)), tombstones);
+    same("probes", slc1_full_check_probes(image, TOTAL, SLC1_OPTIONS(&options)), probes);
+}
+
+static void full_checks(void)
+{
+    checked(SLC1_DONE, 1, 1, 2);
+    put(320, 8, 0); /* a hash that is not its key's */
+    checked(SLC1_NEEDS_REBUILD, 0, 0, 0);
+    put(320, 8, 0xe71fa2190541574b);
+}
+
+static void listings(void)
+{
+    const uint8_t twelve_bits[] = {'a', 0x6f}, other[] = {'a', 0x70};
+    uint32_t numbers[] = {77, 77};
+
+    same("scan, list too short", slc1_scan(image, TOTAL, SLC1_OPTIONS(&options), 0, 9, numbers, 0), SLC1_TOO_SHORT);
+    same("scan past the last", slc1_scan_written(image, TOTAL, SLC1_OPTIONS(&options), 1, 9, numbers, 2), 0);
+    same("number 0 left alone", numbers[0], 77);
+    same("scan", slc1_scan(image, TOTAL, SLC1_OPTIONS(&options), 0, 9, numbers, 2), SLC1_DONE);
+    same("number 0", numbers[0], 1);
+    same("number 1", numbers[1], 77);
+    same("scan total", slc1_scan_total(image, TOTAL, SLC1_OPTIONS(&options), 1, 9, numbers, 2), 1);
+    same("scan written", slc1_scan_written(image, TOTAL, SLC1_OPTIONS(&options), 0, 9, numbers, 2), 1);
+
+    numbers[0] = 77;
+    same("match of 0 bits", slc1_match(image, TOTAL, SLC1_OPTIONS(&options), 0, 0, other, 0, 0, 9, numbers, 2), SLC1_INVALID_INPUT);
+    same("match of none", slc1_match_total(image, TOTAL, SLC1_OPTIONS(&options), 0, 12, other, 2, 0, 9, numbers, 2), 0);
+    same("number 0 left alone", numbers[0], 77);
+    same("match", slc1_match(image, TOTAL, SLC1_OPTIONS(&options), 0, 12, twelve_bits, 2, 0, 9, numbers, 2), SLC1_DONE);
+    same("number 0", numbers[0], 1);
+    same("match total", slc1_match_total(image, TOTAL, SLC1_OPTIONS(&options), 0, 12, twelve_bits, 2, 1, 9, numbers, 2), 1);
+    same("match written", slc1_match_written(image, TOTAL, SLC1_OPTIONS(&options), 0, 12, twelve_bits, 2, 0, 9, numbers, 2), 1);
+}
+
 int main(void)
 {
     digests();
     ages();
+    sizes();
+    lay_out();
+    opened();
+    lookups();
+    full_checks();
+    listings();
     if (differences == 0)
         puts("every call of slc1.h answers as it should");
-    return differences;
+    return differences != 0;
 }

@@ -1,0 +1,61 @@
+-- Sizes and places, by the number that the first test gave for options equal to `o`.
+-- Assumes nothing.
+use Prim.Native.Nat.{ℕ, _+_, _*_, _^_, _≤_, _<_}
+use mathlib.Core.Bool.{true}
+use mathlib.Core.Path.{_≡_, refl, sym, ap, _∙_}
+use native.Mathlib.Nat.{mul-le-mul}
+use native.Mathlib.Omega.{arith}
+use borrow.Author.Tests.{lt-ltb, le-ltb}
+use Rattle.header.specs.declared.options.Options.{Options}
+use Rattle.header.specs.FirstOf.{firstOf}
+use Rattle.header.specs.HeaderTest.{test1}
+use Rattle.header.specs.Sizes.{sizesAllowed, slotSize, totalSize}
+use Rattle.header.proofs.Allowed.{Allowed, allowed}
+use Rattle.header.proofs.Said.{allowed-passed}
+use Rattle.header.proofs.SizeLaws.{slot-size-limit, capacity-limit}
+use Rattle.host.specs.Places.{totalOf, placeIn}
+use Rattle.host.proofs.Failed.{after-failed}
+
+module _ (o given : Options) (known : given ≡ o) (n : ℕ) (tested : n ≡ firstOf (test1 given)) where
+  e : n ≡ firstOf (test1 o)
+  e = tested ∙ ap (λ (p : Options). firstOf (test1 p)) known
+
+  pub total-refused : (n ≡ 0 → ⊥) → 0 ≡ totalOf o
+  unfolding totalOf
+  total-refused h = rw (sym e, after-failed (totalSize o) (λ n. 0) n h) refl
+
+  pub place-refused : (slot into : ℕ) → (n ≡ 0 → ⊥) → 0 ≡ placeIn o slot into
+  unfolding placeIn
+  place-refused slot into h = rw (sym e, after-failed {A = ℕ} _ (λ n. 0) n h) refl
+
+  module _ (z : n ≡ 0) where
+    passed : firstOf (test1 o) ≡ 0
+    passed = sym e ∙ z
+
+    pub sizes : Allowed o
+    sizes = allowed o (allowed-passed o passed)
+
+    pub given-allowed : sizesAllowed given ≡ true
+    given-allowed = rw known (allowed-passed o passed)
+
+    pub total-passed : {r : ℕ} → r ≡ totalSize given → r ≡ totalOf o
+    unfolding totalOf
+    total-passed h = rw (h, passed, known) refl
+
+    module _ (slot : ℕ) where
+      pub place-beyond : (into : ℕ) → o .«slot_capacity» ≤ slot → 0 ≡ placeIn o slot into
+      unfolding placeIn
+      place-beyond into h = rw (passed, le-ltb slot (o .«slot_capacity») h) refl
+
+      module _ (inside : slot < o .«slot_capacity») {size : ℕ} (is : size ≡ slotSize (o .«key_size») (o .«index_size»)) where
+        -- where a slot begins is far below 64 bits
+        pub place-fits : slot * size ≤ 2 ^ 48
+        place-fits =
+            let below : slot ≤ 2 ^ 32 = omega (arith, sizes .capacity-high, capacity-limit) in
+            let limit : size ≤ 2 ^ 16 = rw is (slot-size-limit (o .«key_size») (o .«index_size») (sizes .key-high) (sizes .index-high)) in
+            let product : slot * size ≤ 2 ^ 32 * 2 ^ 16 = mul-le-mul below limit in
+            omega arith
+
+        pub place-inside : (into : ℕ) → 256 + slot * size + into ≡ placeIn o slot into
+        unfolding placeIn
+        place-inside into = rw (passed, lt-ltb slot (o .«slot_capacity») inside, is) refl

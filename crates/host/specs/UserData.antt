@@ -1,0 +1,27 @@
+-- The user data written to a lent buffer.
+-- Assumes nothing.
+use Prim.Native.Nat.{ℕ}
+use mathlib.Core.Bool.{cond}
+use mathlib.Core.List.{List}
+use lib.Dec.{ltb}
+use lib.ListN.{length}
+use Rattle.numbers.specs.Bytes.{put}
+use Rattle.header.specs.declared.options.Options.{Options}
+use Rattle.header.specs.Answer.{done, too-short}
+use Rattle.header.specs.HeaderTest.{headerTest, afterTest}
+use Rattle.header.specs.Open.{userFields}
+
+-- what the call answers, and the buffer that it leaves
+pub record Filled : Type 0 where
+  pub answer : ℕ
+  pub bytes : List ℕ
+
+abbrev pub filled : ℕ → List ℕ → Filled
+filled answer bytes = record { answer = answer; bytes = bytes }
+
+-- "The 64 user bytes" with 0; "lent output too short: 11"
+unfoldable pub userDataOf : Options → List ℕ → List ℕ → Filled
+userDataOf o image out =
+    afterTest (headerTest o image)
+    (cond (ltb (length out) 64) (filled too-short out) (filled done (put out 0 (userFields image .«user_data»))))
+    (λ n. filled n out)

@@ -1,0 +1,114 @@
+// The full check: a call for each of its numbers.
+ghost use mathlib.Core.Path.{_≡_};
+ghost use Rattle.host.specs.Options.{optionsOf};
+ghost use Rattle.image.specs.Check.{checkOf};
+use crate::options::options;
+use image::check::full_check;
+
+// 0 where every sentence of the full check holds, else the number that says why not.
+#[no_mangle]
+pub extern "C" fn slc1_full_check(
+    image: &[u8],
+    key_size: u64,
+    index_size: u64,
+    slot_capacity: u64,
+    user_version: u64,
+    ordered: u64,
+    role: u64,
+) -> u32
+    ensures { λ r. ⌜ r ≡ checkOf (optionsOf «key_size» «index_size» «slot_capacity» «user_version» ordered role) (now (image .entry)) .answer ⌝ }
+{
+    let checked = full_check(
+        image,
+        options(
+            key_size,
+            index_size,
+            slot_capacity,
+            user_version,
+            ordered,
+            role,
+        ),
+    );
+    checked.answer
+}
+
+// The number of live slots where the full check answers 0, else 0.
+#[no_mangle]
+pub extern "C" fn slc1_full_check_live(
+    image: &[u8],
+    key_size: u64,
+    index_size: u64,
+    slot_capacity: u64,
+    user_version: u64,
+    ordered: u64,
+    role: u64,
+) -> u64
+    ensures { λ r. ⌜ r ≡ checkOf (optionsOf «key_size» «index_size» «slot_capacity» «user_version» ordered role) (now (image .entry)) .live ⌝ }
+{
+    let checked = full_check(
+        image,
+        options(
+            key_size,
+            index_size,
+            slot_capacity,
+            user_version,
+            ordered,
+            role,
+        ),
+    );
+    checked.live
+}
+
+// The number of TOMBSTONE buckets where the full check answers 0, else 0.
+#[no_mangle]
+pub extern "C" fn slc1_full_check_tombstones(
+    image: &[u8],
+    key_size: u64,
+    index_size: u64,
+    slot_capacity: u64,
+    user_version: u64,
+    ordered: u64,
+    role: u64,
+) -> u64
+    ensures { λ r. ⌜ r ≡ checkOf (optionsOf «key_size» «index_size» «slot_capacity» «user_version» ordered role) (now (image .entry)) .tombstones ⌝ }
+{
+    let checked = full_check(
+        image,
+        options(
+            key_size,
+            index_size,
+            slot_capacity,
+            user_version,
+            ordered,
+            role,
+        ),
+    );
+    checked.tombstones
+}
+
+// The sum of lookup counts over live keys where the full check answers 0, else 0.
+#[no_mangle]
+pub extern "C" fn slc1_full_check_probes(
+    image: &[u8],
+    key_size: u64,
+    index_size: u64,
+    slot_capacity: u64,
+    user_version: u64,
+    ordered: u64,
+    role: u64,
+) -> u64
+    ensures { λ r. ⌜ r ≡ checkOf (optionsOf «key_size» «index_size» «slot_capacity» «user_version» ordered role) (now (image .entry)) .probes ⌝ }
+{
+    let checked = full_check(
+        image,
+        options(
+            key_size,
+            index_size,
+            slot_capacity,
+            user_version,
+            ordered,
+            role,
+        ),
+    );
+    checked.probes
+}

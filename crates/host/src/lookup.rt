@@ -1,0 +1,122 @@
+// Lookup: a call for each of its numbers.
+ghost use mathlib.Core.Path.{_≡_};
+ghost use Rattle.host.specs.Options.{optionsOf};
+ghost use Rattle.image.specs.Lookup.{lookupOf};
+use crate::options::options;
+use image::lookup::look_up;
+
+// 0 found, 9 not present, or the number that refuses the call.
+#[no_mangle]
+pub extern "C" fn slc1_lookup(
+    image: &[u8],
+    key_size: u64,
+    index_size: u64,
+    slot_capacity: u64,
+    user_version: u64,
+    ordered: u64,
+    role: u64,
+    key: &[u8],
+) -> u32
+    ensures { λ r. ⌜ r ≡ lookupOf (optionsOf «key_size» «index_size» «slot_capacity» «user_version» ordered role) (now (image .entry)) (now (key .entry)) .answer ⌝ }
+{
+    let found = look_up(
+        image,
+        options(
+            key_size,
+            index_size,
+            slot_capacity,
+            user_version,
+            ordered,
+            role,
+        ),
+        key,
+    );
+    found.answer
+}
+
+// The slot of a key that is found, else 0.
+#[no_mangle]
+pub extern "C" fn slc1_lookup_slot(
+    image: &[u8],
+    key_size: u64,
+    index_size: u64,
+    slot_capacity: u64,
+    user_version: u64,
+    ordered: u64,
+    role: u64,
+    key: &[u8],
+) -> u64
+    ensures { λ r. ⌜ r ≡ lookupOf (optionsOf «key_size» «index_size» «slot_capacity» «user_version» ordered role) (now (image .entry)) (now (key .entry)) .slot ⌝ }
+{
+    let found = look_up(
+        image,
+        options(
+            key_size,
+            index_size,
+            slot_capacity,
+            user_version,
+            ordered,
+            role,
+        ),
+        key,
+    );
+    found.slot
+}
+
+// The revision of a key that is found, else 0.
+#[no_mangle]
+pub extern "C" fn slc1_lookup_revision(
+    image: &[u8],
+    key_size: u64,
+    index_size: u64,
+    slot_capacity: u64,
+    user_version: u64,
+    ordered: u64,
+    role: u64,
+    key: &[u8],
+) -> i64
+    ensures { λ r. ⌜ r ≡ lookupOf (optionsOf «key_size» «index_size» «slot_capacity» «user_version» ordered role) (now (image .entry)) (now (key .entry)) .revision ⌝ }
+{
+    let found = look_up(
+        image,
+        options(
+            key_size,
+            index_size,
+            slot_capacity,
+            user_version,
+            ordered,
+            role,
+        ),
+        key,
+    );
+    found.revision
+}
+
+// The number of buckets examined for a key that is found or not present, else 0.
+#[no_mangle]
+pub extern "C" fn slc1_lookup_buckets(
+    image: &[u8],
+    key_size: u64,
+    index_size: u64,
+    slot_capacity: u64,
+    user_version: u64,
+    ordered: u64,
+    role: u64,
+    key: &[u8],
+) -> u64
+    ensures { λ r. ⌜ r ≡ lookupOf (optionsOf «key_size» «index_size» «slot_capacity» «user_version» ordered role) (now (image .entry)) (now (key .entry)) .buckets ⌝ }
+{
+    let found = look_up(
+        image,
+        options(
+            key_size,
+            index_size,
+            slot_capacity,
+            user_version,
+            ordered,
+            role,
+        ),
+        key,
+    );
+    found.buckets
+}
