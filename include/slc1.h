@@ -144,6 +144,29 @@ uint64_t slc1_match_written(
     const uint8_t *image, size_t length, SLC1_SIX_NUMBERS, uint64_t offset, uint64_t bits, const uint8_t *pattern,
     size_t pattern_length, uint64_t skip, uint64_t limit, uint32_t *numbers, size_t count);
 
+/* Create. */
+
+/* Writes a fresh image to the start of a lent buffer, over any bytes: 0; 7 where the options are out of range; 11 where
+ * the buffer is shorter than slc1_total_size. Bytes past the total stay. */
+uint32_t slc1_create(uint8_t *buffer, size_t length, SLC1_SIX_NUMBERS);
+
+/* The writing calls. They want the role SLC1_LOCK_HELD: another writer gives 4, no writer known gives 7. The image is
+ * changed in place; the caller syncs it. */
+
+/* Before the first change: CLEAN becomes DIRTY. On DIRTY nothing changes. */
+uint32_t slc1_begin(uint8_t *image, size_t length, SLC1_SIX_NUMBERS);
+
+/* When all is synced: DIRTY becomes CLEAN. On CLEAN nothing changes. */
+uint32_t slc1_checkpoint(uint8_t *image, size_t length, SLC1_SIX_NUMBERS);
+
+/* Gives the image up for good: every call answers 3 from then on. 1 where the generation is used up. */
+uint32_t slc1_invalidate(uint8_t *image, size_t length, SLC1_SIX_NUMBERS);
+
+/* Replaces the caller's own flags and data. The data are exactly 64 bytes, else 7. 7 on CLEAN: begin first. 1 where the
+ * generation is used up. */
+uint32_t slc1_set_user_fields(
+    uint8_t *image, size_t length, SLC1_SIX_NUMBERS, uint64_t user_flags, const uint8_t *user_data, size_t data_length);
+
 /* Revision age. */
 
 /* How the second revision stands against the first: -1 older, 0 the same, 1 newer. */

@@ -99,11 +99,34 @@ def readings(comparison):
             listings(comparison, image, asked)
 
 
+def creations(comparison):
+    for _ in range(8000):
+        o = comparison.images.asked(comparison.images.options())
+        size = second.total_size(o) if second.options_fit(o) else 300
+        length = comparison.random.choice((0, 255, size - 1, size, size + 1, size + 70))
+        comparison.same("create", bytearray(comparison.random.randbytes(length)), o)
+
+
+def writings(comparison):
+    """Every state call under every role, state and generation; the whole buffer compared."""
+    for _ in range(6000):
+        o = comparison.images.options()
+        image = comparison.images.image(o)
+        if len(image) >= 256 and comparison.random.random() < 0.3:
+            generation = comparison.random.choice((0, 1, 2**64 - 1, 2**64 - 2, 2**64 - 3, 2**64 - 4))
+            second.write_field(image, "generation", generation)
+        for _ in range(4):
+            asked = comparison.images.asked(o)
+            for name in ("begin", "checkpoint", "invalidate"):
+                comparison.same(name, image, asked)
+            comparison.same("set_user_fields", image, asked, comparison.random.getrandbits(64), comparison.random.randbytes(64))
+
+
 def main():
     seed = int(sys.argv[1]) if len(sys.argv) > 1 else 1
     comparison = Comparison(seed)
     began = time.monotonic()
-    for part in (digests, ages, places, readings):
+    for part in (digests, ages, places, readings, creations, writings):
         part(comparison)
     print(f"{comparison.calls} calls agree with the second program (seed {seed}, {time.monotonic() - began:.0f} s)")
 

@@ -48,6 +48,11 @@ FULL_CHECK_PROBES = declared("full_check_probes", U64, *IMAGE)
 SCAN = declared("scan", U32, *IMAGE, *WINDOW, *SLICE)
 SCAN_TOTAL = declared("scan_total", U64, *IMAGE, *WINDOW, *SLICE)
 SCAN_WRITTEN = declared("scan_written", U64, *IMAGE, *WINDOW, *SLICE)
+CREATE = declared("create", U32, *IMAGE)
+BEGIN = declared("begin", U32, *IMAGE)
+CHECKPOINT = declared("checkpoint", U32, *IMAGE)
+INVALIDATE = declared("invalidate", U32, *IMAGE)
+SET_USER_FIELDS = declared("set_user_fields", U32, *IMAGE, U64, *SLICE)
 MATCH = declared("match", U32, *IMAGE, U64, U64, *SLICE, *WINDOW, *SLICE)
 MATCH_TOTAL = declared("match_total", U64, *IMAGE, U64, U64, *SLICE, *WINDOW, *SLICE)
 MATCH_WRITTEN = declared("match_written", U64, *IMAGE, U64, U64, *SLICE, *WINDOW, *SLICE)
@@ -116,3 +121,29 @@ def scan(image, o, skip, limit, numbers):
 def match(image, o, offset, bits, pattern, skip, limit, numbers):
     start = (*lent(image), *o, offset, bits, *lent(pattern), skip, limit)
     return listed(numbers, [partial(call, *start) for call in (MATCH, MATCH_TOTAL, MATCH_WRITTEN)])
+
+
+def writing(call, image, *rest):
+    """A call that changes a lent image in place."""
+    room = (ctypes.c_char * len(image)).from_buffer(image) if image else ctypes.create_string_buffer(1)
+    return call(room, len(image), *rest)
+
+
+def create(buffer, o):
+    return writing(CREATE, buffer, *o)
+
+
+def begin(image, o):
+    return writing(BEGIN, image, *o)
+
+
+def checkpoint(image, o):
+    return writing(CHECKPOINT, image, *o)
+
+
+def invalidate(image, o):
+    return writing(INVALIDATE, image, *o)
+
+
+def set_user_fields(image, o, user_flags, user_data):
+    return writing(SET_USER_FIELDS, image, *o, user_flags, *lent(user_data))

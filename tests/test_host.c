@@ -180,6 +180,35 @@ static void listings(void)
     same("match written", slc1_match_written(image, TOTAL, SLC1_OPTIONS(&options), 0, 12, twelve_bits, 2, 0, 9, numbers, 2), 1);
 }
 
+static void written(void)
+{
+    slc1_options own = {12, 20, 1, 1, 0, SLC1_LOCK_HELD};
+    uint8_t fresh[256 + 56 + 32 + 1], data[64], back[64];
+
+    memset(fresh, 0xa5, sizeof fresh);
+    memset(data, 7, sizeof data);
+    same("create in too short a buffer", slc1_create(fresh, 343, SLC1_OPTIONS(&own)), SLC1_TOO_SHORT);
+    same("create", slc1_create(fresh, sizeof fresh, SLC1_OPTIONS(&own)), SLC1_DONE);
+    same("the byte past the total", fresh[344], 0xa5);
+    same("a fresh image", slc1_full_check(fresh, 344, SLC1_OPTIONS(&own)), SLC1_DONE);
+    same("user fields on CLEAN", slc1_set_user_fields(fresh, 344, SLC1_OPTIONS(&own), 9, data, 64), SLC1_INVALID_INPUT);
+    same("begin", slc1_begin(fresh, 344, SLC1_OPTIONS(&own)), SLC1_DONE);
+    same("user data of 63 bytes", slc1_set_user_fields(fresh, 344, SLC1_OPTIONS(&own), 9, data, 63), SLC1_INVALID_INPUT);
+    same("user fields", slc1_set_user_fields(fresh, 344, SLC1_OPTIONS(&own), 9, data, 64), SLC1_DONE);
+    same("the flags", slc1_user_flags(fresh, 344, SLC1_OPTIONS(&own)), 9);
+    same("the data", slc1_user_data(fresh, 344, SLC1_OPTIONS(&own), back, 64), SLC1_DONE);
+    same("byte for byte", (uint64_t)memcmp(back, data, 64), 0);
+    own.role = SLC1_NO_WRITER_KNOWN;
+    same("DIRTY with no writer known", slc1_open_check(fresh, 344, SLC1_OPTIONS(&own)), SLC1_NEEDS_REBUILD);
+    own.role = SLC1_ANOTHER_WRITER;
+    same("checkpoint of another", slc1_checkpoint(fresh, 344, SLC1_OPTIONS(&own)), SLC1_BUSY);
+    own.role = SLC1_LOCK_HELD;
+    same("checkpoint", slc1_checkpoint(fresh, 344, SLC1_OPTIONS(&own)), SLC1_DONE);
+    same("the generation", fresh[0x40], 2);
+    same("invalidate", slc1_invalidate(fresh, 344, SLC1_OPTIONS(&own)), SLC1_DONE);
+    same("an image given up", slc1_open_check(fresh, 344, SLC1_OPTIONS(&own)), SLC1_INVALIDATED);
+}
+
 int main(void)
 {
     digests();
@@ -190,6 +219,7 @@ int main(void)
     lookups();
     full_checks();
     listings();
+    written();
     if (differences == 0)
         puts("every call of slc1.h answers as it should");
     return differences != 0;

@@ -19,11 +19,11 @@ use Rattle.header.proofs.SizeLaws.{bucket-count-room, bucket-count-limi
 use Rattle.header.proofs.Stages.{Passes, passes}
 
 -- by the header test's number
-verdict-fit : (n : ℕ) (s t : Shape) → verdict n t ≡ Fit s → (n ≡ 0) × (s ≡ t)
+pub verdict-fit : (n : ℕ) (s t : Shape) → verdict n t ≡ Fit s → (n ≡ 0) × (s ≡ t)
 verdict-fit zero s t e = (refl, cc)
 verdict-fit (suc n) s t e = (let z : _≡_ {A = ℕ} 0 1 = cc in omega arith, cc)
 
-verdict-refused : (n m : ℕ) (t : Shape) → verdict n t ≡ Refused m → (n ≡ m) × (0 < m)
+pub verdict-refused : (n m : ℕ) (t : Shape) → verdict n t ≡ Refused m → (n ≡ m) × (0 < m)
 verdict-refused zero m t e = let z : _≡_ {A = ℕ} 0 1 = cc in (omega arith, omega arith)
 verdict-refused (suc n) m t e = let z : suc n ≡ m = cc in (z, omega arith)
 

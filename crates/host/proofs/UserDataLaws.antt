@@ -1,11 +1,12 @@
--- The user data written to a lent buffer, by what the open check returned.
+-- The user data written to a lent buffer, by what the open check returned, and taken from a lent slice.
 -- Assumes nothing.
-use Prim.Native.Nat.{ℕ, zero, suc, _≤_, _<_}
+use Prim.Native.Nat.{ℕ, zero, suc, _+_, _≤_, _<_}
 use mathlib.Core.Path.{_≡_, refl, sym, ap, _∙_}
-use mathlib.Core.List.{List}
-use borrow.Author.Tests.{lt-ltb, le-ltb}
+use mathlib.Core.List.{List, append-nil}
+use native.Mathlib.Omega.{arith}
+use borrow.Author.Tests.{lt-ltb, le-ltb, eq-eqb, ne-eqb}
 use lib.Dec.{lit<}
-use lib.ListN.{length}
+use lib.ListN.{length, drop-of-length-le}
 use Rattle.numbers.specs.Bytes.{put}
 use Rattle.header.specs.declared.open.Opened.{Opened}
 use Rattle.header.specs.declared.options.Options.{Options}
@@ -15,7 +16,8 @@ use Rattle.header.specs.HeaderTest.{headerTest, afterTest}
 use Rattle.header.specs.Open.{openOf, userFields}
 use Rattle.header.proofs.FieldBytes.{bytes-length}
 use Rattle.header.proofs.Fit.{fit-length, judged-fit}
-use Rattle.host.specs.UserData.{userDataOf}
+use Rattle.writing.specs.State.{setUserFieldsOf}
+use Rattle.host.specs.UserData.{userDataOf, setUserFieldsFrom}
 use Rattle.host.proofs.Failed.{after-failed}
 
 -- the open check answers the header test's number
@@ -55,3 +57,26 @@ module _ (o given : Options) (known : given ≡ o) (image out : List ℕ) (r : O
     pub data-written : 64 ≤ length out → {written : List ℕ} → written ≡ put out 0 (r .fields .«user_data») → (done ≡ userDataOf o image out .answer) × (written ≡ userDataOf o image out .bytes)
     unfolding userDataOf
     data-written h e = rw (e, fields, passed, le-ltb (length out) 64 h) (refl, refl)
+
+module _ (o : Options) (image : List ℕ) (flags : ℕ) (bytes : List ℕ) where
+  -- user data of another length
+  pub from-wrong : (length bytes ≡ 64 → ⊥) → (7 ≡ setUserFieldsFrom o image flags bytes .answer) × (image ≡ setUserFieldsFrom o image flags bytes .image)
+  unfolding setUserFieldsFrom
+  from-wrong ne = rw (ne-eqb (length bytes) 64 ne) (refl, refl)
+
+  -- 64 bytes put over 64 others
+  all-over : (was : List ℕ) → length bytes ≡ 64 → length was ≡ 64 → put was 0 bytes ≡ bytes
+  unfolding put
+  all-over was e e′ =
+      let past : length was ≤ 0 + length bytes = omega arith in
+      rw (drop-of-length-le was past) (append-nil bytes)
+
+  -- and user data of 64 bytes, copied first
+  pub from-right : (given : Options) (was bytes′ : List ℕ) {r : ℕ} {image′ : List ℕ}
+      → (r ≡ setUserFieldsOf given image (record { «user_flags» = flags; «user_data» = bytes′ }) .answer) × (image′ ≡ setUserFieldsOf given image (record { «user_flags» = flags; «user_data» = bytes′ }) .image)
+      → given ≡ o → bytes′ ≡ put was 0 bytes → length bytes ≡ 64 → length was ≡ 64
+      → (r ≡ setUserFieldsFrom o image flags bytes .answer) × (image′ ≡ setUserFieldsFrom o image flags bytes .image)
+  unfolding setUserFieldsFrom
+  from-right given was bytes′ told known copied e e′ =
+      let d : bytes′ ≡ bytes = copied ∙ all-over was e e′ in
+      rw (eq-eqb (length bytes) 64 e, ← known, ← d) told

@@ -1,15 +1,17 @@
--- The user data written to a lent buffer.
+-- The user fields, handed out to a lent buffer and taken from a lent slice.
 -- Assumes nothing.
 use Prim.Native.Nat.{ℕ}
 use mathlib.Core.Bool.{cond}
 use mathlib.Core.List.{List}
-use lib.Dec.{ltb}
+use lib.Dec.{eqb, ltb}
 use lib.ListN.{length}
 use Rattle.numbers.specs.Bytes.{put}
 use Rattle.header.specs.declared.options.Options.{Options}
-use Rattle.header.specs.Answer.{done, too-short}
+use Rattle.header.specs.Answer.{done, invalid-input, too-short}
 use Rattle.header.specs.HeaderTest.{headerTest, afterTest}
 use Rattle.header.specs.Open.{userFields}
+use Rattle.writing.specs.State.{setUserFieldsOf}
+use Rattle.writing.specs.Write.{Written}
 
 -- what the call answers, and the buffer that it leaves
 pub record Filled : Type 0 where
@@ -25,3 +27,9 @@ userDataOf o image out =
     afterTest (headerTest o image)
     (cond (ltb (length out) 64) (filled too-short out) (filled done (put out 0 (userFields image .«user_data»))))
     (λ n. filled n out)
+
+-- user fields taken from a lent slice: exactly 64 bytes, else 7
+unfoldable pub setUserFieldsFrom : Options → List ℕ → ℕ → List ℕ → Written
+setUserFieldsFrom o image flags bytes =
+    cond (eqb (length bytes) 64) (setUserFieldsOf o image (record { «user_flags» = flags; «user_data» = bytes }))
+    (record { answer = invalid-input; image = image })

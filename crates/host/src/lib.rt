@@ -7,3 +7,4 @@ pub mod lookup;
 pub mod open;
 pub mod options;
 pub mod sizes;
+pub mod write;

@@ -3,3 +3,4 @@ pub mod Product
 pub mod Put
 pub mod Signed
 pub mod Word
+pub mod PutPart

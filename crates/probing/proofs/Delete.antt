@@ -35,7 +35,7 @@ pub record Deleted (t : Table) (s : ℕ) (t′ : Table) : Type 0 where
   pub order : neverFall t′ ≡ neverFall t
 
 -- the table with bucket q a TOMBSTONE and slot s not live
-abbrev cleared : Table → ℕ → ℕ → Table
+abbrev pub cleared : Table → ℕ → ℕ → Table
 cleared t q s =
     record {
       B = t .B;

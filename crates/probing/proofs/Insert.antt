@@ -15,6 +15,7 @@ use Rattle.probing.specs.Check.{metasRight, neverFall}
 use Rattle.probing.specs.Sound.{Sound}
 use Rattle.probing.specs.Change.{update, place, placed, appended, inserted}
 use Rattle.probing.proofs.Counting.{all-at, all-of}
+use Rattle.probing.proofs.Agree.{sound-agree}
 use Rattle.probing.proofs.Change.{update-same, update-other, by-update, all-update, count-more, count-update}
 use Rattle.probing.proofs.Place.{place-same}
 use Rattle.probing.proofs.Placed.{upTo, Placed, placing}
@@ -36,27 +37,6 @@ pub record Inserted (t : Table) (k : List ℕ) (t′ : Table) : Type 0 where
   pub tombstones : tombstoneCount t′ + one (isTombstone (t .bucket (place t k))) ≡ tombstoneCount t
   pub used : fullCount t′ + tombstoneCount t′ ≤ fullCount t + tombstoneCount t + 1
   pub order : neverFall t ≡ true → (t .highwater ≡ 0) ⊎ (below k (t .key (t .highwater - 1)) ≡ false) → neverFall t′ ≡ true
-
--- A table is sound by its slots below highwater: the others may have any meta and key.
-sound-below : (t : Table) (meta′ : ℕ → ℕ) (key′ : ℕ → List ℕ) → ((s : ℕ) → s < t .highwater → meta′ s ≡ t .meta s)
-    → ((s : ℕ) → s < t .highwater → key′ s ≡ t .key s) → Sound t
-    → Sound (record { B = t .B; highwater = t .highwater; bucket = t .bucket; meta = meta′; key = key′; hash = t .hash })
-sound-below t meta′ key′ metas keys sound =
-    record {
-      full = λ b h s l q. let old = sound .full b h s l q in (old .0, metas s (old .0) ∙ old .1, old .2 ∙ ap (t .hash) (sym (keys s (old .0))));
-      different = λ s s′ l l′ m m′ e.
-          sound .different s s′ l l′ (sym (metas s l) ∙ m) (sym (metas s′ l′) ∙ m′) (sym (keys s l) ∙ e ∙ keys s′ l′);
-      reached = λ s l m.
-          let r = sound .reached s l (sym (metas s l) ∙ m) in
-          record {
-            distance = r .distance;
-            within = r .within;
-            stands = rw (keys s l) (r .stands);
-            way = λ i less. rw (keys s l) (r .way i less);
-          };
-      single = sound .single;
-      vacant = sound .vacant;
-    }
 
 -- a slot that is not in the index changes no key's place
 pub place-appended : (t : Table) (x k : List ℕ) → place (appended t x) k ≡ place t k
@@ -89,7 +69,8 @@ module _ (t : Table) (k : List ℕ) where
   -- the slots below, with the new one not yet counted
   appended-sound : Sound t → Sound (upTo (appended t k) (t .highwater))
   unfolding appended
-  appended-sound = sound-below t (update (t .meta) (t .highwater) 1) (update (t .key) (t .highwater) k) old-meta old-key
+  appended-sound =
+      sound-agree t (t .bucket) (update (t .meta) (t .highwater) 1) (update (t .key) (t .highwater) k) (λ b l. refl) old-meta old-key
 
   -- the new slot placed
   appended-placed : Sound t → ((s : ℕ) → s < t .highwater → t .meta s ≡ 1 → t .key s ≡ k → ⊥)

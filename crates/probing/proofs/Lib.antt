@@ -15,3 +15,5 @@ pub mod Flow
 pub mod SumLaw
 pub mod Homes
 pub mod Witness
+pub mod Agree
+pub mod Clip

@@ -7,3 +7,4 @@ pub mod Change
 pub mod Overflow
 pub mod Flow
 pub mod Homes
+pub mod Clip

@@ -1,0 +1,156 @@
+// Create and the writing calls. Any number but 0 leaves every lent byte alone.
+ghost use mathlib.Core.Path.{_≡_};
+ghost use Rattle.writing.specs.Create.{createOf};
+ghost use Rattle.writing.specs.State.{beginOf, checkpointOf, invalidateOf};
+ghost use Rattle.host.specs.Options.{optionsOf};
+ghost use Rattle.host.specs.UserData.{setUserFieldsFrom};
+use crate::options::options;
+use header::answer::INVALID_INPUT;
+use header::open::UserFields;
+use numbers::parts::copy_to;
+use writing::create::create;
+use writing::state::begin;
+use writing::state::checkpoint;
+use writing::state::invalidate;
+use writing::state::set_user_fields;
+
+// Writes a fresh image to the start of a lent buffer: 0, 7 where the options are outside the sizes, 11 where the buffer is too short.
+#[no_mangle]
+pub extern "C" fn slc1_create(
+    buffer: &mut [u8],
+    key_size: u64,
+    index_size: u64,
+    slot_capacity: u64,
+    user_version: u64,
+    ordered: u64,
+    role: u64,
+) -> u32
+    ensures { λ r. ⌜ (r ≡ createOf (optionsOf «key_size» «index_size» «slot_capacity» «user_version» ordered role) (now (buffer .entry)) .answer) × (now (buffer .exit) ≡ createOf (optionsOf «key_size» «index_size» «slot_capacity» «user_version» ordered role) (now (buffer .entry)) .image) ⌝ }
+{
+    create(
+        buffer,
+        options(
+            key_size,
+            index_size,
+            slot_capacity,
+            user_version,
+            ordered,
+            role,
+        ),
+    )
+}
+
+// CLEAN becomes DIRTY; on DIRTY nothing changes.
+#[no_mangle]
+pub extern "C" fn slc1_begin(
+    image: &mut [u8],
+    key_size: u64,
+    index_size: u64,
+    slot_capacity: u64,
+    user_version: u64,
+    ordered: u64,
+    role: u64,
+) -> u32
+    ensures { λ r. ⌜ (r ≡ beginOf (optionsOf «key_size» «index_size» «slot_capacity» «user_version» ordered role) (now (image .entry)) .answer) × (now (image .exit) ≡ beginOf (optionsOf «key_size» «index_size» «slot_capacity» «user_version» ordered role) (now (image .entry)) .image) ⌝ }
+{
+    begin(
+        image,
+        options(
+            key_size,
+            index_size,
+            slot_capacity,
+            user_version,
+            ordered,
+            role,
+        ),
+    )
+}
+
+// DIRTY becomes CLEAN; on CLEAN nothing changes.
+#[no_mangle]
+pub extern "C" fn slc1_checkpoint(
+    image: &mut [u8],
+    key_size: u64,
+    index_size: u64,
+    slot_capacity: u64,
+    user_version: u64,
+    ordered: u64,
+    role: u64,
+) -> u32
+    ensures { λ r. ⌜ (r ≡ checkpointOf (optionsOf «key_size» «index_size» «slot_capacity» «user_version» ordered role) (now (image .entry)) .answer) × (now (image .exit) ≡ checkpointOf (optionsOf «key_size» «index_size» «slot_capacity» «user_version» ordered role) (now (image .entry)) .image) ⌝ }
+{
+    checkpoint(
+        image,
+        options(
+            key_size,
+            index_size,
+            slot_capacity,
+            user_version,
+            ordered,
+            role,
+        ),
+    )
+}
+
+// CLEAN or DIRTY becomes INVALIDATED, for good.
+#[no_mangle]
+pub extern "C" fn slc1_invalidate(
+    image: &mut [u8],
+    key_size: u64,
+    index_size: u64,
+    slot_capacity: u64,
+    user_version: u64,
+    ordered: u64,
+    role: u64,
+) -> u32
+    ensures { λ r. ⌜ (r ≡ invalidateOf (optionsOf «key_size» «index_size» «slot_capacity» «user_version» ordered role) (now (image .entry)) .answer) × (now (image .exit) ≡ invalidateOf (optionsOf «key_size» «index_size» «slot_capacity» «user_version» ordered role) (now (image .entry)) .image) ⌝ }
+{
+    invalidate(
+        image,
+        options(
+            key_size,
+            index_size,
+            slot_capacity,
+            user_version,
+            ordered,
+            role,
+        ),
+    )
+}
+
+// Replaces user_flags and user_data. The data are exactly 64 bytes: 7 otherwise.
+#[no_mangle]
+pub extern "C" fn slc1_set_user_fields(
+    image: &mut [u8],
+    key_size: u64,
+    index_size: u64,
+    slot_capacity: u64,
+    user_version: u64,
+    ordered: u64,
+    role: u64,
+    user_flags: u64,
+    user_data: &[u8],
+) -> u32
+    ensures { λ r. ⌜ (r ≡ setUserFieldsFrom (optionsOf «key_size» «index_size» «slot_capacity» «user_version» ordered role) (now (image .entry)) «user_flags» (now («user_data» .entry)) .answer) × (now (image .exit) ≡ setUserFieldsFrom (optionsOf «key_size» «index_size» «slot_capacity» «user_version» ordered role) (now (image .entry)) «user_flags» (now («user_data» .entry)) .image) ⌝ }
+{
+    if user_data.len() != 64 {
+        return INVALID_INPUT;
+    }
+    let mut bytes = [0u8; 64];
+    copy_to(&mut bytes, 0, user_data);
+    set_user_fields(
+        image,
+        options(
+            key_size,
+            index_size,
+            slot_capacity,
+            user_version,
+            ordered,
+            role,
+        ),
+        UserFields {
+            user_flags,
+            user_data: bytes,
+        },
+    )
+}

@@ -1,0 +1,128 @@
+-- What a write of slots and buckets leaves alone.
+-- Assumes nothing.
+use Prim.Native.Nat.{ℕ, _+_, _*_, _≤_}
+use mathlib.Core.Path.{_≡_, refl, ap, ap₂, _∙_}
+use mathlib.Core.List.{List}
+use native.Mathlib.Omega.{arith}
+use lib.ListN.{length}
+use Rattle.numbers.specs.Bytes.{part, word, put}
+use Rattle.numbers.specs.Signed.{signed}
+use Rattle.numbers.proofs.Put.{length-put}
+use Rattle.numbers.proofs.PutPart.{part-put-before, part-put-after}
+use Rattle.header.specs.declared.shape.Shape.{Shape}
+use Rattle.header.specs.Fields as F
+use Rattle.header.specs.Fields.{fieldOf, bytesIn, value}
+use Rattle.header.specs.HeaderTest.{shapeOf}
+use Rattle.header.specs.Shaped.{Shaped}
+use Rattle.image.specs.Table.{slotAt, keyAt, revisionAt, indexAt, bucketAt, metaOf, keyOf, revisionOf, indexOf, bucketFrom, bucketOf}
+use Rattle.writing.proofs.OneField.{in-header}
+use Rattle.image.proofs.Places.{key-in-slot, index-in-slot}
+
+-- Every part from one offset to another is as it was.
+pub record SameFrom (image image′ : List ℕ) (low high : ℕ) : Type 0 where
+  pub parts : (a n : ℕ) → low ≤ a → a + n ≤ high → part image′ a n ≡ part image a n
+
+-- a put changes nothing that ends before it or begins behind it
+module _ (image : List ℕ) (at : ℕ) (bs : List ℕ) (fits : at + length bs ≤ length image) where
+  pub put-before : (low high : ℕ) → high ≤ at → SameFrom image (put image at bs) low high
+  put-before low high l = record { parts = λ a n from to. part-put-before image at bs fits a n (omega arith) }
+
+  pub put-behind : (low high : ℕ) → at + length bs ≤ low → SameFrom image (put image at bs) low high
+  put-behind low high l = record { parts = λ a n from to. part-put-after image at bs fits a n (omega arith) }
+
+-- Slot n reads as it did.
+pub record SameSlot (s : Shape) (image image′ : List ℕ) (n : ℕ) : Type 0 where
+  pub meta : metaOf s image′ n ≡ metaOf s image n
+  pub key : keyOf s image′ n ≡ keyOf s image n
+  pub revision : revisionOf s image′ n ≡ revisionOf s image n
+  pub index : indexOf s image′ n ≡ indexOf s image n
+
+pub same-slot-then : {s : Shape} {image image′ image″ : List ℕ} {n : ℕ} → SameSlot s image image′ n → SameSlot s image′ image″ n
+    → SameSlot s image image″ n
+same-slot-then p q =
+    record { meta = q .meta ∙ p .meta; key = q .key ∙ p .key; revision = q .revision ∙ p .revision; index = q .index ∙ p .index }
+
+-- All of slot n but its meta reads as it did.
+pub record SameBody (s : Shape) (image image′ : List ℕ) (n : ℕ) : Type 0 where
+  pub key : keyOf s image′ n ≡ keyOf s image n
+  pub revision : revisionOf s image′ n ≡ revisionOf s image n
+  pub index : indexOf s image′ n ≡ indexOf s image n
+
+module _ (s : Shape) (image image′ : List ℕ) where
+  pub same-body : Shaped s image → (n : ℕ) → SameFrom image image′ (slotAt s n + 8) (slotAt s n + s .«slot_size») → SameBody s image image′ n
+  unfolding keyOf revisionOf indexOf keyAt revisionAt indexAt
+  same-body fit n h =
+      let key = key-in-slot s n in
+      let index = index-in-slot s image fit n in
+      record {
+        key = h .parts (keyAt s n) (s .«key_size») (omega arith) (omega arith);
+        revision = ap (λ (x : List ℕ). signed (word x)) (h .parts (revisionAt s n) 8 (omega arith) (omega arith));
+        index = h .parts (indexAt s n) (s .«index_size») (omega arith) (omega arith);
+      }
+
+  pub same-slot : Shaped s image → (n : ℕ) → SameFrom image image′ (slotAt s n) (slotAt s n + s .«slot_size») → SameSlot s image image′ n
+  unfolding metaOf indexAt
+  same-slot fit n h =
+      let index = index-in-slot s image fit n in
+      let body = same-body fit n (record { parts = λ a m from to. h .parts a m (omega arith) to }) in
+      record {
+        meta = ap word (h .parts (slotAt s n) 8 (omega arith) (omega arith));
+        key = body .key;
+        revision = body .revision;
+        index = body .index;
+      }
+
+  pub same-bucket : (b : ℕ) → SameFrom image image′ (bucketAt s b) (bucketAt s b + 16) → bucketOf s image′ b ≡ bucketOf s image b
+  unfolding bucketOf
+  same-bucket b h =
+      ap₂ (λ (x y : List ℕ). bucketFrom (word x) (word y))
+      (h .parts (bucketAt s b) 8 (omega arith) (omega arith)) (h .parts (bucketAt s b + 8) 8 (omega arith) (omega arith))
+
+-- Outside the slots and buckets all bytes are as they were.
+pub record Around (s : Shape) (image image′ : List ℕ) : Type 0 where
+  pub size : length image′ ≡ length image
+  pub header : (a n : ℕ) → a + n ≤ 256 → part image′ a n ≡ part image a n
+  pub behind : (a n : ℕ) → s .«buckets_offset» + 16 * s .«bucket_count» ≤ a → part image′ a n ≡ part image a n
+
+pub around-then : {s : Shape} {image image′ image″ : List ℕ} → Around s image image′ → Around s image′ image″ → Around s image image″
+around-then p q =
+    record {
+      size = q .size ∙ p .size;
+      header = λ a n l. q .header a n l ∙ p .header a n l;
+      behind = λ a n l. q .behind a n l ∙ p .behind a n l;
+    }
+
+-- so is every field of the header, and what the header says
+pub around-bytes : {s : Shape} {image image′ : List ℕ} → Around s image image′ → (name : ℕ) → bytesIn image′ name ≡ bytesIn image name
+unfolding bytesIn
+around-bytes k name = k .header (fieldOf name .offset) (fieldOf name .width) (in-header name)
+
+pub around-shape : {s : Shape} {image image′ : List ℕ} → Around s image image′ → shapeOf image′ ≡ shapeOf image
+unfolding shapeOf value
+around-shape k =
+    let b = around-bytes k in
+    rw (b F.key-size, b F.index-size, b F.slot-size, b F.slot-capacity, b F.slot-highwater, b F.live-count, b F.bucket-count, b F.bucket-tombstones, b F.buckets-offset, b F.flags, b F.state, b F.generation) refl
+
+-- the shape is still that of the image
+pub around-shaped : {s : Shape} {image image′ : List ℕ} → Around s image image′ → Shaped s image → Shaped s image′
+around-shaped k fit =
+    record {
+      slot = fit .slot;
+      offset = fit .offset;
+      inside = omega (arith, fit .inside, k .size);
+      counters = fit .counters;
+      highwater = fit .highwater;
+      room = fit .room;
+      small = fit .small;
+    }
+
+module _ (s : Shape) (image : List ℕ) (fit : Shaped s image) (at : ℕ) (bs : List ℕ) where
+  -- a put into the slots and buckets
+  pub put-around : 256 ≤ at → at + length bs ≤ s .«buckets_offset» + 16 * s .«bucket_count» → Around s image (put image at bs)
+  put-around low high =
+      let fits : at + length bs ≤ length image = omega (arith, fit .inside) in
+      record {
+        size = length-put image at bs fits;
+        header = λ a n l. part-put-before image at bs fits a n (omega arith);
+        behind = λ a n l. part-put-after image at bs fits a n (omega arith);
+      }

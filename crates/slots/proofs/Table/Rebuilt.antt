@@ -1,0 +1,121 @@
+-- The index rebuilt: all zero, then the live slots in slot order. The slots stay.
+-- Assumes nothing.
+use Prim.Native.Nat.{ℕ, zero, suc, _+_, _*_, _≤_, _<_}
+use mathlib.Core.Bool.{Bool, true, false, cond}
+use mathlib.Core.Path.{_≡_, refl, sym, ap, _∙_}
+use mathlib.Core.List.{List}
+use native.Mathlib.Nat.{le-refl, add-assoc}
+use native.Mathlib.Numerals.{add-one}
+use native.Mathlib.Omega.{arith}
+use lib.Dec.{eqb}
+use lib.ListN.{length, replicate, length-replicate}
+use Rattle.numbers.specs.Bytes.{word, part, put}
+use Rattle.numbers.proofs.PutPart.{part-put-in}
+use Rattle.probing.specs.Table.{EMPTY, Table}
+use Rattle.probing.specs.Change as change
+use Rattle.probing.specs.Change.{placed}
+use Rattle.probing.specs.Clip.{clip}
+use Rattle.probing.proofs.Clip.{agree-clip, live-clip, clip-emptied}
+use Rattle.header.specs.declared.shape.Shape.{Shape}
+use Rattle.header.specs.Shaped.{Shaped}
+use Rattle.header.specs.Sizes.{bucketsOffset}
+use Rattle.image.specs.Table.{bucketAt, metaOf, bucketFrom, bucketOf, tableOf}
+use Rattle.image.proofs.Places.{slot-ends}
+use Rattle.slots.specs.Slots.{indexed, rebuiltTo, rebuilt}
+use Rattle.slots.proofs.Table.ReadBack.{word-zeros}
+use Rattle.slots.proofs.Table.Around.{put-before, Around, around-then, around-shaped, put-around, SameSlot, same-slot, same-slot-then}
+use Rattle.slots.proofs.Table.Indexed.{indexed-around, indexed-slot, indexed-table}
+
+-- The index holds the live slots below n, and all else is as it was.
+pub record Built (s : Shape) (image : List ℕ) (n : ℕ) (image′ : List ℕ) : Type 0 where
+  pub around : Around s image image′
+  pub slots : (m : ℕ) → m < s .«slot_capacity» → SameSlot s image image′ m
+  pub table : clip (tableOf s image′) ≡ change.rebuiltTo (clip (tableOf s image)) n
+
+module _ (s : Shape) (image : List ℕ) (fit : Shaped s image) where
+  -- the image with all buckets zero
+  abbrev zeros : List ℕ
+  zeros = replicate (16 * s .«bucket_count») 0
+
+  abbrev empty : List ℕ
+  empty = put image (s .«buckets_offset») zeros
+
+  fits : s .«buckets_offset» + length zeros ≤ length image
+  fits = omega (arith, fit .inside, length-replicate {A = ℕ} (16 * s .«bucket_count») 0)
+
+  word-zero : (j : ℕ) → j + 8 ≤ 16 * s .«bucket_count» → word (part empty (s .«buckets_offset» + j) 8) ≡ 0
+  word-zero j l =
+      ap word (part-put-in image (s .«buckets_offset») zeros fits j 8 (omega (arith, length-replicate {A = ℕ} (16 * s .«bucket_count») 0)))
+      ∙ word-zeros (16 * s .«bucket_count») j l
+
+  empty-bucket : (b : ℕ) → b < s .«bucket_count» → bucketOf s empty b ≡ EMPTY
+  unfolding bucketOf bucketFrom bucketAt
+  empty-bucket b l = rw (add-assoc (s .«buckets_offset») (16 * b) 8, word-zero (16 * b + 8) (omega arith)) refl
+
+  empty-slots : (m : ℕ) → m < s .«slot_capacity» → SameSlot s image empty m
+  empty-slots m l = same-slot s image empty fit m (put-before image (s .«buckets_offset») zeros fits _ _ (slot-ends s image fit m l))
+
+  built-none : Built s image 0 (rebuiltTo s image 0)
+  unfolding rebuiltTo bucketsOffset change.rebuiltTo tableOf
+  built-none =
+      record {
+        around =
+            put-around s image fit (s .«buckets_offset») zeros (omega (arith, fit .offset)) (omega (arith, length-replicate {A = ℕ} (16 * s .«bucket_count») 0));
+        slots = empty-slots;
+        table =
+            agree-clip (tableOf s empty) (change.rebuiltTo (tableOf s image) 0) refl refl refl empty-bucket
+            (λ m l. empty-slots m (omega (arith, l, fit .highwater)) .meta) (λ m l. empty-slots m (omega (arith, l, fit .highwater)) .key)
+            ∙ clip-emptied (tableOf s image);
+      }
+
+  -- what slot n does to the table
+  step : (n : ℕ) → n < s .«slot_highwater» → (alive : Bool) → eqb (metaOf s image n) 1 ≡ alive
+      → change.rebuiltTo (clip (tableOf s image)) (suc n)
+      ≡ cond alive (placed (change.rebuiltTo (clip (tableOf s image)) n) n) (change.rebuiltTo (clip (tableOf s image)) n)
+  unfolding change.rebuiltTo tableOf
+  step n l alive e =
+      ap (λ (r : Bool). cond r (placed (change.rebuiltTo (clip (tableOf s image)) n) n) (change.rebuiltTo (clip (tableOf s image)) n))
+      (live-clip (tableOf s image) n l ∙ e)
+
+  -- slot by slot
+  pub built : (n : ℕ) → n ≤ s .«slot_highwater» → Built s image n (rebuiltTo s image n)
+  unfolding rebuiltTo
+  built zero l = built-none
+  built (suc n) l = go (eqb (metaOf s image n) 1) refl (built n (omega arith))
+    where
+      inside : n < s .«slot_capacity»
+      inside = omega (arith, fit .highwater)
+
+      go : (alive : Bool) → eqb (metaOf s image n) 1 ≡ alive → Built s image n (rebuiltTo s image n)
+          → Built s image (suc n) (cond alive (indexed s (rebuiltTo s image n) n) (rebuiltTo s image n))
+      go true e b =
+          let before = rebuiltTo s image n in
+          let fit′ = around-shaped (b .around) fit in
+          record {
+            around = around-then (b .around) (indexed-around s before fit′ n inside);
+            slots = λ m below. same-slot-then (b .slots m below) (indexed-slot s before fit′ n inside m below);
+            table = indexed-table s before fit′ n inside l ∙ ap (λ (t : Table). placed t n) (b .table) ∙ sym (step n l true e);
+          }
+      go false e b = record { around = b .around; slots = b .slots; table = b .table ∙ sym (step n l false e) }
+
+  -- one slot more, by the meta that the image has by then
+  pub rebuilt-more : (n : ℕ) (before : List ℕ) → n < s .«slot_highwater» → before ≡ rebuiltTo s image n
+      → cond (eqb (metaOf s before n) 1) (indexed s before n) before ≡ rebuiltTo s image (n + 1)
+  unfolding rebuiltTo
+  rebuilt-more n before l e =
+      let meta = built n (omega arith) .slots n (omega (arith, fit .highwater)) .meta in
+      rw (add-one, e) (ap (λ (m : ℕ). cond (eqb m 1) (indexed s (rebuiltTo s image n) n) (rebuiltTo s image n)) meta)
+
+  pub rebuilt-around : Around s image (rebuilt s image)
+  unfolding rebuilt
+  rebuilt-around = built (s .«slot_highwater») (le-refl _) .around
+
+  -- the slots stay
+  pub rebuilt-slot : (m : ℕ) → m < s .«slot_capacity» → SameSlot s image (rebuilt s image) m
+  unfolding rebuilt
+  rebuilt-slot = built (s .«slot_highwater») (le-refl _) .slots
+
+  -- the table with the index rebuilt
+  pub rebuilt-table : clip (tableOf s (rebuilt s image)) ≡ change.rebuilt (clip (tableOf s image))
+  unfolding rebuilt change.rebuilt clip tableOf
+  rebuilt-table = built (s .«slot_highwater») (le-refl _) .table

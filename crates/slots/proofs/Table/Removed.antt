@@ -1,0 +1,121 @@
+-- A slot removed: its meta is cleared and its bucket a TOMBSTONE, and all else stays.
+-- Assumes nothing.
+use Prim.Native.Nat.{ℕ, _+_, _-_, _%_, _≤_, _<_}
+use mathlib.Core.Path.{_≡_, refl, sym, ap, _∙_}
+use mathlib.Core.List.{List}
+use native.Mathlib.Decide.{ℕ-discrete}
+use native.Mathlib.Omega.{arith}
+use lib.Dec.{lit<}
+use lib.ListN.{length}
+use Rattle.numbers.specs.Bytes.{bytesOf, put}
+use Rattle.numbers.proofs.PutPart.{length-bytes}
+use Rattle.probing.specs.Table.{TOMBSTONE}
+use Rattle.probing.specs.Probe.{Probed, found, home, probe}
+use Rattle.probing.specs.Change.{deletedAt, deleted}
+use Rattle.probing.specs.Clip.{clip}
+use Rattle.probing.proofs.Change.{by-update}
+use Rattle.probing.proofs.Delete.{cleared}
+use Rattle.probing.proofs.Clip.{agree-clip, clip-deleted}
+use Rattle.header.specs.declared.shape.Shape.{Shape}
+use Rattle.header.specs.Shaped.{Shaped}
+use Rattle.image.specs.Table.{slotAt, indexAt, bucketAt, metaOf, bucketFrom, bucketOf, tableOf}
+use Rattle.image.proofs.Places.{index-in-slot, meta-inside, bucket-inside}
+use Rattle.slots.specs.Slots.{removed, all-ones}
+use Rattle.slots.proofs.Table.ReadBack.{word-put}
+use Rattle.slots.proofs.Table.Around.{Around, around-then, around-shaped, SameSlot, SameBody, same-body, put-behind}
+use Rattle.slots.proofs.Table.Apart.{fits-slots, slot-put-around, slot-put-slot, slot-put-bucket, bucket-put-around, bucket-put-slot, bucket-put-bucket}
+
+module _ (s : Shape) (image : List ℕ) (fit : Shaped s image) (n b : ℕ) (inside : n < s .«slot_capacity») (bucket : b < s .«bucket_count») where
+  -- the image with the meta cleared
+  abbrev mid : List ℕ
+  mid = put image (slotAt s n) (bytesOf 8 0)
+
+  high : slotAt s n + length (bytesOf 8 0) ≤ slotAt s n + s .«slot_size»
+  unfolding indexAt
+  high = omega (arith, length-bytes 8 0, index-in-slot s image fit n)
+
+  mid-around : Around s image mid
+  mid-around = slot-put-around s image fit (slotAt s n) (bytesOf 8 0) n inside (omega arith) high
+
+  mid-other : (m : ℕ) → (m ≡ n → ⊥) → SameSlot s image mid m
+  mid-other = slot-put-slot s image fit (slotAt s n) (bytesOf 8 0) n inside (omega arith) high
+
+  mid-fit : Shaped s mid
+  mid-fit = around-shaped mid-around fit
+
+  high′ : bucketAt s b + 8 + length (bytesOf 8 all-ones) ≤ bucketAt s b + 16
+  high′ = omega (arith, length-bytes 8 all-ones)
+
+  pub removed-around : Around s image (removed s image n b)
+  unfolding removed
+  removed-around =
+      around-then mid-around
+      (bucket-put-around s mid mid-fit (bucketAt s b + 8) (bytesOf 8 all-ones) b bucket (omega arith) high′)
+
+  abbrev after : List ℕ
+  after = removed s image n b
+
+  -- the bucket's own bytes touch no slot
+  slots : (m : ℕ) → m < s .«slot_capacity» → SameSlot s mid after m
+  unfolding removed
+  slots = bucket-put-slot s mid mid-fit (bucketAt s b + 8) (bytesOf 8 all-ones) b bucket (omega arith) high′
+
+  -- the slot's meta is cleared, the other metas stay
+  pub removed-meta : metaOf s after n ≡ 0
+  unfolding metaOf
+  removed-meta = slots n inside .meta ∙ word-put image (slotAt s n) 0 (meta-inside s image fit n inside) (lit< tt)
+
+  pub removed-other : (m : ℕ) → m < s .«slot_capacity» → (m ≡ n → ⊥) → metaOf s after m ≡ metaOf s image m
+  removed-other m l other =
+      slots m l .meta ∙ mid-other m other .meta
+
+  -- all else of the slots stays
+  pub removed-body : (m : ℕ) → m < s .«slot_capacity» → SameBody s image after m
+  removed-body m l =
+      record { key = slots m l .key ∙ body .key; revision = slots m l .revision ∙ body .revision; index = slots m l .index ∙ body .index }
+    where
+      go : Dec (m ≡ n) → SameBody s image mid m
+      go (yes e) =
+          let size = length-bytes 8 0 in
+          rw e (same-body s image mid fit n
+          (put-behind image (slotAt s n) (bytesOf 8 0) (fits-slots s image fit (slotAt s n) (bytesOf 8 0) n inside (omega arith) high) _ _ (omega arith)))
+      go (no other) =
+          let r = mid-other m other in
+          record { key = r .key; revision = r .revision; index = r .index }
+
+      body : SameBody s image mid m
+      body = go (ℕ-discrete m n)
+
+  -- the bucket is a TOMBSTONE, the other buckets stay
+  pub removed-bucket : bucketOf s after b ≡ TOMBSTONE
+  unfolding bucketOf bucketFrom removed
+  removed-bucket =
+      let fits : bucketAt s b + 8 + 8 ≤ length mid = omega (arith, bucket-inside s mid mid-fit b bucket) in
+      rw (word-put mid (bucketAt s b + 8) all-ones fits (lit< tt)) refl
+
+  removed-buckets : (c : ℕ) → (c ≡ b → ⊥) → bucketOf s after c ≡ bucketOf s image c
+  unfolding removed
+  removed-buckets c other =
+      bucket-put-bucket s mid mid-fit (bucketAt s b + 8) (bytesOf 8 all-ones) b bucket (omega arith) high′ c other
+      ∙ slot-put-bucket s image fit (slotAt s n) (bytesOf 8 0) n inside (omega arith) high c
+
+  -- the table with the meta cleared and the bucket a TOMBSTONE
+  pub removed-cleared : clip (tableOf s after) ≡ clip (cleared (tableOf s image) b n)
+  unfolding tableOf
+  removed-cleared =
+      agree-clip (tableOf s after) (cleared (tableOf s image) b n) refl refl refl
+      (λ c l. by-update (bucketOf s image) b TOMBSTONE c (λ at v. ap (bucketOf s after) at ∙ removed-bucket ∙ sym v) (λ other v. removed-buckets c other ∙ sym v))
+      (λ m l. by-update (metaOf s image) n 0 m
+      (λ at v. ap (metaOf s after) at ∙ removed-meta ∙ sym v)
+      (λ other v. removed-other m (omega (arith, l, fit .highwater)) other ∙ sym v))
+      (λ m l. removed-body m (omega (arith, l, fit .highwater)) .key)
+
+  -- the table with the key deleted, where its probe found the slot and ended at the bucket
+  pub removed-table : (k : List ℕ) (count : ℕ) → probe (tableOf s image) k ≡ found n count
+      → b ≡ (home (tableOf s image) k + (count - 1)) % s .«bucket_count» → clip (tableOf s after) ≡ deleted (clip (tableOf s image)) k
+  unfolding deleted tableOf
+  removed-table k count e at =
+      removed-cleared
+      ∙ ap (λ (c : ℕ). clip (cleared (tableOf s image) c n)) at
+      ∙ ap (λ (p : Probed). clip (deletedAt (tableOf s image) k p)) (sym e)
+      ∙ clip-deleted (tableOf s image) k (omega (arith, bucket))

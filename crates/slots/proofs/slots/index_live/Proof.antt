@@ -1,0 +1,34 @@
+-- `slots::slots::index_live` meets its contract.
+-- Assumes nothing.
+use borrow.Author.Needs.{needs}
+use mathlib.Core.Path.{refl}
+use borrow.Author.Tests.{eq-eqb, ne-eqb}
+use Rattle.slots.proofs.slots.index_live.Statement.{statement}
+use Rattle.slots.proofs.slots.index_live.Tie as tie
+
+meta-at-requires : tie.Need-meta-at-requires
+meta-at-requires c κs = search needs
+
+index-slot-requires : tie.Need-index-slot-requires
+index-slot-requires c κs = search needs
+
+same-length : tie.Need-same-length
+same-length c = search needs
+
+returns : tie.Need-returns
+returns c =
+    let m = c .before .before .before .before .before .meta-at in
+    rw (← m .ensures, eq-eqb (m .result) 1 (c .before .before .before .before .if1 .taken)) (c .before .before .index-slot .ensures)
+
+same-length-2 : tie.Need-same-length-2
+same-length-2 c = search needs
+
+returns-2 : tie.Need-returns-2
+returns-2 c =
+    let m = c .before .meta-at in
+    rw (← m .ensures, ne-eqb (m .result) 1 (c .if1 .left)) refl
+
+pub index-live-spec : {M : Type 1} → statement M
+index-live-spec =
+    tie.close
+    (tie.spec meta-at-requires index-slot-requires same-length returns same-length-2 returns-2)

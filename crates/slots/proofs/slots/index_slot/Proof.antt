@@ -1,0 +1,90 @@
+-- `slots::slots::index_slot` meets its contract.
+-- Assumes nothing.
+use borrow.Author.Needs.{needs}
+use mathlib.Core.Path.{_≡_, sym, ap, subst, _∙_}
+use native.Mathlib.Omega.{arith}
+use Prim.Native.Nat.{ℕ, _+_, _≤_}
+use mathlib.Core.List.{List}
+use lib.ListN.{length}
+use Rattle.digests.specs.Fnv.{fnv1a64}
+use Rattle.probing.specs.Change.{place}
+use Rattle.image.specs.Table.{bucketAt, keyOf, tableOf}
+use Rattle.image.proofs.Places.{bucket-inside}
+use Rattle.slots.proofs.Table.Place.{place-by-hash}
+use Rattle.slots.proofs.Table.Indexed.{bucket-below, two-puts}
+use Rattle.slots.proofs.slots.index_slot.Statement.{statement}
+use Rattle.slots.proofs.slots.index_slot.Tie as tie
+
+-- where the function began
+abbrev start : tie.After-place-of → tie.Start
+start c = c .before .before .before .before .before .before
+
+-- the key that the slot has
+abbrev key : tie.After-place-of → List ℕ
+key c = keyOf (start c .args .s) (start c .args .image .now) (start c .args .n)
+
+hashed : (c : tie.After-place-of) → c .before .before .fnv1a64-of .result ≡ fnv1a64 (key c)
+hashed c = c .before .before .fnv1a64-of .ensures ∙ ap fnv1a64 (c .before .before .before .key-part .ensures)
+
+-- the bucket is the key's place
+found : (c : tie.After-place-of) → c .place-of .result ≡ place (tableOf (start c .args .s) (start c .args .image .now)) (key c)
+found c =
+    let a = start c .args in
+    place-by-hash (a .s) (a .image .now) (key c) (c .before .before .fnv1a64-of .result) (c .place-of .result) (hashed c) (c .place-of .ensures)
+
+inside : (c : tie.After-place-of) → bucketAt (start c .args .s) (c .place-of .result) + 16 ≤ length (start c .args .image .now)
+inside c =
+    let a = start c .args in
+    let pre = start c .pre in
+    subst (λ (b : ℕ). bucketAt (a .s) b + 16 ≤ length (a .image .now)) (sym (found c))
+    (bucket-inside (a .s) (a .image .now) (pre .0) _ (bucket-below (a .s) (a .image .now) (pre .0) (a .n) (pre .1)))
+
+key-part-requires : tie.Need-key-part-requires
+key-part-requires c κs = search needs
+
+fnv1a64-of-requires : tie.Need-fnv1a64-of-requires
+fnv1a64-of-requires c κs = search needs
+
+place-of-requires : tie.Need-place-of-requires
+place-of-requires c κs = search needs
+
+bucket-at-requires : tie.Need-bucket-at-requires
+bucket-at-requires c κs = omega (arith, inside c)
+
+put-u64-requires : tie.Need-put-u64-requires
+put-u64-requires c κs = omega (arith, c .before .bucket-at .ensures, inside (c .before .before))
+
+add-put-u64 : tie.Need-add-put-u64
+add-put-u64 c = omega (arith, c .before .before .before .before .before .bucket-at .ensures, inside (c .before .before .before .before .before .before))
+
+add-put-u64-2 : tie.Need-add-put-u64-2
+add-put-u64-2 c = search needs
+
+put-u64-requires-2 : tie.Need-put-u64-requires-2
+put-u64-requires-2 c κs =
+    omega (arith, c .before .before .before .before .before .bucket-at .ensures, inside (c .before .before .before .before .before .before))
+
+same-length : tie.Need-same-length
+same-length c = search needs
+
+returns : tie.Need-returns
+returns c =
+    let b = c .before .before .before .before .before .before .before .before .before in
+    let a = start b .args in
+    let pre = start b .pre in
+    cc (two-puts (a .s) (a .image .now) (pre .0) (a .n) (pre .1), found b, hashed b)
+
+pub index-slot-spec : {M : Type 1} → statement M
+index-slot-spec =
+    tie.close
+    (tie.spec
+    key-part-requires
+    fnv1a64-of-requires
+    place-of-requires
+    bucket-at-requires
+    put-u64-requires
+    add-put-u64
+    add-put-u64-2
+    put-u64-requires-2
+    same-length
+    returns)

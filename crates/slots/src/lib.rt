@@ -1,0 +1,2 @@
+// The writes that a commit is made of.
+pub mod slots;

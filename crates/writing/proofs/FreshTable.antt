@@ -1,0 +1,97 @@
+-- The shape and the table of a fresh image: no slot is taken, every bucket is EMPTY, and the full check passes.
+-- Assumes nothing.
+use Prim.Native.Nat.{ℕ, suc, _+_, _*_, _≤_, _<_}
+use mathlib.Core.Bool.{Bool, true, false, not, _||_}
+use mathlib.Core.Path.{_≡_, refl, ap, _∙_}
+use mathlib.Core.List.{List}
+use native.Mathlib.Nat.{suc-mul, mul-le-mul-right}
+use native.Mathlib.Omega.{arith}
+use lib.Dec.{T, eqb}
+use Rattle.numbers.specs.Bytes.{word}
+use Rattle.probing.specs.Counting.{sumTo, countTo, allTo}
+use Rattle.probing.specs.Table.{Table, EMPTY, liveCount, fullCount, tombstoneCount, isFull, isTombstone}
+use Rattle.probing.specs.Check.{bucketRight, bucketsRight, metasRight, eachFound, countsEqual, neverFall, checks}
+use Rattle.probing.proofs.Counting.{all-of, count-none}
+use Rattle.header.specs.declared.options.Options.{Options}
+use Rattle.header.specs.declared.shape.Shape.{Shape}
+use Rattle.header.specs.Fields as F
+use Rattle.header.specs.Fields.{value}
+use Rattle.header.specs.FirstOf.{firstOf}
+use Rattle.header.specs.HeaderTest.{CLEAN, shapeOf}
+use Rattle.header.specs.Sizes.{slotSize, bucketCount, bucketsOffset, totalSize}
+use Rattle.header.proofs.SizeLaws.{slot-size-low}
+use Rattle.image.specs.Check.{passes}
+use Rattle.image.specs.Table.{slotAt, bucketAt, metaOf, bucketFrom, bucketOf, tableOf}
+use Rattle.writing.specs.Create.{createTests, freshFields, createOf}
+use Rattle.writing.proofs.OneField.{Fits, apart}
+use Rattle.writing.proofs.FieldList.{after}
+use Rattle.writing.proofs.Zeros.{word-zeros}
+use Rattle.writing.proofs.FreshTests.{extent}
+use Rattle.writing.proofs.Fresh.{fresh-value, fresh-behind}
+
+-- "header CLEAN, generation and counters 0", and the sizes as the options say
+abbrev pub freshShape : Options → Shape
+freshShape o =
+    record {
+      «key_size» = o .«key_size»;
+      «index_size» = o .«index_size»;
+      «slot_size» = slotSize (o .«key_size») (o .«index_size»);
+      «slot_capacity» = o .«slot_capacity»;
+      «slot_highwater» = 0;
+      «live_count» = 0;
+      «bucket_count» = bucketCount (o .«slot_capacity»);
+      «bucket_tombstones» = 0;
+      «buckets_offset» = bucketsOffset (o .«slot_capacity») (slotSize (o .«key_size») (o .«index_size»));
+      ordered = eqb (o .ordered) 1;
+      state = CLEAN;
+      generation = 0;
+    }
+
+or-true : (ordered : Bool) → not ordered || true ≡ true
+or-true true = refl
+or-true false = refl
+
+-- a slot below the capacity ends before the buckets begin
+slot-inside : (o : Options) (n : ℕ) → n < o .«slot_capacity» → 256 + n * slotSize (o .«key_size») (o .«index_size») + 8 ≤ totalSize o
+unfolding bucketsOffset
+slot-inside o n h =
+    let slot : ℕ = slotSize (o .«key_size») (o .«index_size») in
+    let most : suc n * slot ≤ o .«slot_capacity» * slot = mul-le-mul-right slot h in
+    omega (arith, rw suc-mul at most, extent o, slot-size-low (o .«key_size») (o .«index_size»))
+
+buckets-low : (o : Options) → 256 ≤ bucketsOffset (o .«slot_capacity») (slotSize (o .«key_size») (o .«index_size»))
+unfolding bucketsOffset
+buckets-low o = omega arith
+
+-- a table without slots whose buckets are all EMPTY passes the full check
+empty-checks : (t : Table) (ordered : Bool) → t .highwater ≡ 0 → ((b : ℕ) → b < t .B → t .bucket b ≡ EMPTY) → checks t ordered 0 0 0 ≡ true
+unfolding checks bucketsRight metasRight eachFound countsEqual neverFall liveCount fullCount tombstoneCount allTo countTo sumTo
+empty-checks t ordered h e =
+    let right : allTo (t .B) (λ b. bucketRight t (t .bucket b)) ≡ true = all-of (t .B) (λ b. bucketRight t (t .bucket b)) (λ b l. rw (e b l) refl) in
+    let full : countTo (t .B) (λ b. isFull (t .bucket b)) ≡ 0 = count-none (t .B) {p = λ b. isFull (t .bucket b)} (λ b l. rw (e b l) refl) in
+    let tombstones : countTo (t .B) (λ b. isTombstone (t .bucket b)) ≡ 0 = count-none (t .B) {p = λ b. isTombstone (t .bucket b)} (λ b l. rw (e b l) refl) in
+    rw (right, full, tombstones, h) (or-true ordered)
+
+module _ (o : Options) (buffer : List ℕ) (z : firstOf (createTests o buffer) ≡ 0) (version : Fits F.user-version (o .«user_version»)) where
+  v : (m : ℕ) → T (apart m F.header-crc32c) → value (createOf o buffer .image) m ≡ after (freshFields o) m 0
+  v = fresh-value o buffer z version
+
+  pub fresh-shape : shapeOf (createOf o buffer .image) ≡ freshShape o
+  unfolding shapeOf freshFields
+  fresh-shape =
+      rw (v F.key-size tt, v F.index-size tt, v F.slot-size tt, v F.slot-capacity tt, v F.slot-highwater tt, v F.live-count tt, v F.bucket-count tt, v F.bucket-tombstones tt, v F.buckets-offset tt, v F.flags tt, v F.state tt, v F.generation tt) refl
+
+  pub fresh-meta : (n : ℕ) → n < o .«slot_capacity» → metaOf (freshShape o) (createOf o buffer .image) n ≡ 0
+  unfolding metaOf slotAt
+  fresh-meta n h =
+      ap word (fresh-behind o buffer z version (256 + n * slotSize (o .«key_size») (o .«index_size»)) 8 (omega arith) (slot-inside o n h)) ∙ word-zeros 8
+
+  pub fresh-bucket : (b : ℕ) → b < bucketCount (o .«slot_capacity») → bucketOf (freshShape o) (createOf o buffer .image) b ≡ EMPTY
+  unfolding bucketOf bucketAt bucketFrom
+  fresh-bucket b h =
+      let at : ℕ = bucketsOffset (o .«slot_capacity») (slotSize (o .«key_size») (o .«index_size»)) + 16 * b + 8 in
+      rw (fresh-behind o buffer z version at 8 (omega (arith, buckets-low o)) (omega (arith, extent o)), word-zeros 8) refl
+
+  pub fresh-passes : passes (shapeOf (createOf o buffer .image)) (createOf o buffer .image) ≡ true
+  unfolding passes tableOf
+  fresh-passes = rw fresh-shape (empty-checks (tableOf (freshShape o) (createOf o buffer .image)) (eqb (o .ordered) 1) refl fresh-bucket)

@@ -1,0 +1,104 @@
+-- What set user fields makes of an image, where it answers 0.
+-- Assumes nothing.
+use Prim.Native.Nat.{ℕ, _+_, _≤_}
+use mathlib.Core.Path.{_≡_, refl, sym, ap, _∙_}
+use mathlib.Core.List.{List, [], _∷_, _++_, append-assoc}
+use native.Mathlib.Omega.{arith}
+use borrow.Author.Tests.{eqb-false}
+use lib.Dec.{T, eqb, lit≤}
+use lib.ListN.{length}
+use Rattle.numbers.specs.Bytes.{word, bytesOf, put}
+use Rattle.header.specs.declared.options.Options.{Options}
+use Rattle.header.specs.declared.open.UserFields.{UserFields}
+use Rattle.header.specs.Answer.{invalidated}
+use Rattle.header.specs.Fields as F
+use Rattle.header.specs.Fields.{bytesIn, value}
+use Rattle.header.specs.FirstOf.{firstOf}
+use Rattle.header.specs.HeaderTest.{CLEAN, INVALIDATED, DIRTY, headerTest}
+use Rattle.header.specs.Open.{userFields}
+use Rattle.header.proofs.Firsts.{first-none, fails}
+use Rattle.writing.specs.Write.{withField, withFields, sealed}
+use Rattle.writing.specs.State.{writingTests, cleanTest, generationTest, userTests, published, withUserData, setUserFieldsOf}
+use Rattle.writing.proofs.OneField.{Fits, apart}
+use Rattle.writing.proofs.FieldList.{Fitting, after, fields-length, fields-value}
+use Rattle.writing.proofs.Bytes.{Bytes, word-bound, bytes-word, value-bytes}
+use Rattle.writing.proofs.Seal.{seal-other}
+use Rattle.writing.proofs.Tests.{state-passed, header-holds, header-by-state}
+use Rattle.writing.proofs.Answers.{answers, accepted}
+use Rattle.writing.proofs.Roles.{writing-named, passed-header, passed-long, passed-even}
+use Rattle.writing.proofs.StateCode.{user-data-generation}
+use Rattle.writing.proofs.Became.{Became, became-written}
+use Rattle.writing.proofs.StateLaws.{next-fits}
+
+-- user data are a field
+user-data-field : (image data′ : List ℕ) → length data′ ≡ 64 → Bytes data′ → withUserData image data′ ≡ withField image F.user-data (word data′)
+unfolding withUserData withField
+user-data-field image data′ n h = ap (put image 0x80) (sym (rw n at (bytes-word data′ h)))
+
+-- an image that passes the header test and is not CLEAN is DIRTY
+dirty : (o : Options) (image : List ℕ) → headerTest o image ≡ 0 → firstOf (cleanTest image) ≡ 0 → value image F.state ≡ DIRTY
+unfolding cleanTest
+dirty o image z c =
+    let s : ℕ = value image F.state in
+    let h = header-holds o image z in
+    let p = first-none ((eqb s INVALIDATED, invalidated) ∷ []) _ tt (sym (header-by-state o image h) ∙ z) in
+    let valid = eqb-false s INVALIDATED (fails (eqb s INVALIDATED) 2 (p .0)) in
+    let unclean = eqb-false s CLEAN (fails (eqb s CLEAN) 6 c) in
+    omega (arith, state-passed image (h .sixth))
+
+module _ (o : Options) (image : List ℕ) (bytes : Bytes image) (fields : UserFields) (size : length (fields .«user_data») ≡ 64) (user-bytes : Bytes (fields .«user_data»)) (flags : Fits F.user-flags (fields .«user_flags»)) where
+  -- the fields that the call writes
+  fs : List (ℕ × ℕ)
+  fs = (F.user-data, word (fields .«user_data»)) ∷ (F.generation, value image F.generation + 2) ∷ (F.user-flags, fields .«user_flags») ∷ []
+
+  module _ (a : setUserFieldsOf o image fields .answer ≡ 0) where
+    changed : List ℕ
+    changed = published (withUserData image (fields .«user_data»)) ((F.user-flags, fields .«user_flags») ∷ [])
+
+    none : firstOf (userTests o image) ≡ 0
+    unfolding setUserFieldsOf changed
+    none = sym (answers image changed (firstOf (userTests o image))) ∙ a
+
+    writing : firstOf (writingTests o image) ≡ 0
+    unfolding userTests
+    writing = first-none (writingTests o image) (cleanTest image ++ generationTest image) (writing-named o image) (rw append-assoc at none) .0
+
+    further : (firstOf (cleanTest image) ≡ 0) × (firstOf (generationTest image) ≡ 0)
+    unfolding userTests cleanTest
+    further = first-none (cleanTest image) (generationTest image) tt (first-none (writingTests o image) (cleanTest image ++ generationTest image) (writing-named o image) (rw append-assoc at none) .1)
+
+    long : 256 ≤ length image
+    long = passed-long o image writing
+
+    left : setUserFieldsOf o image fields .image ≡ sealed (withFields image fs)
+    unfolding setUserFieldsOf changed published withFields fs
+    left =
+        accepted image changed (firstOf (userTests o image)) none
+        ∙ rw (user-data-generation image (fields .«user_data») long size, user-data-field image (fields .«user_data») size user-bytes) refl
+
+    fitting : Fitting fs
+    unfolding fs
+    fitting = (rw size at (word-bound (fields .«user_data») user-bytes), (next-fits image bytes long (further .1) (passed-even o image writing), (flags, tt)))
+
+    pub user-became : Became o image (setUserFieldsOf o image fields .image) DIRTY (value image F.generation + 2)
+    unfolding fs
+    user-became =
+        let even = passed-even o image writing in
+        rw left
+        (became-written o image (passed-header o image writing) long bytes fs tt fitting (dirty o image (passed-header o image writing) (further .0)) refl (lit≤ tt) (omega arith))
+
+    valued : (m : ℕ) → T (apart m F.header-crc32c) → value (sealed (withFields image fs)) m ≡ after fs m (value image m)
+    valued m t =
+        seal-other (withFields image fs) (omega (arith, long, fields-length fs image long)) m t ∙ fields-value fs image long fitting m
+
+    -- "replaces user_flags and user_data"
+    pub user-set : userFields (setUserFieldsOf o image fields .image) ≡ fields
+    unfolding userFields fs
+    user-set =
+        let image′ : List ℕ = sealed (withFields image fs) in
+        let b = rw left at user-became in
+        let data-bytes : bytesIn image′ F.user-data ≡ fields .«user_data» =
+        sym (value-bytes image′ (b .bytes) (omega (arith, long, b .kept .same-length)) F.user-data)
+        ∙ ap (bytesOf 64) (valued F.user-data tt)
+        ∙ rw size at (bytes-word (fields .«user_data») user-bytes) in
+        rw (left, valued F.user-flags tt, data-bytes) refl

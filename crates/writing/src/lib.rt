@@ -1,0 +1,4 @@
+// An SLC1 image written: create and the state calls.
+pub mod create;
+pub mod fields;
+pub mod state;

@@ -1,0 +1,160 @@
+// Begin, checkpoint, invalidate and set user fields.
+ghost use mathlib.Core.Path.{_≡_};
+ghost use mathlib.Core.List.{[], _∷_};
+ghost use Prim.Native.Nat.{_%_, _≤_, _<_, _^_};
+ghost use lib.ListN.{length};
+ghost use Rattle.header.specs.Fields.{value, generation as generation-name, state as state-name, user-flags};
+ghost use Rattle.header.specs.FirstOf.{firstOf};
+ghost use Rattle.header.specs.HeaderTest.{shapeOf, verdict};
+ghost use Rattle.writing.specs.Write.{unless};
+ghost use Rattle.writing.specs.State.{writingTests, last-generation, inState, published, withUserData, beginOf, checkpointOf, invalidateOf, setUserFieldsOf};
+use crate::fields::seal;
+use crate::fields::write;
+use header::answer::BUSY;
+use header::answer::DONE;
+use header::answer::INVALID_INPUT;
+use header::answer::NEEDS_REBUILD;
+use header::fields;
+use header::fields::field_of;
+use header::judge::judge;
+use header::open::UserFields;
+use header::options::Options;
+use header::shape::Judged;
+use numbers::parts::copy_to;
+
+// The states of an image.
+const CLEAN: u64 = 0;
+
+const INVALIDATED: u64 = 1;
+
+const DIRTY: u64 = 2;
+
+// What each change but one of the state alone adds to the generation.
+const GENERATION_STEP: u64 = 2;
+
+// No even generation comes after this one.
+const LAST_GENERATION: u64 = 18446744073709551614;
+
+// The header test, and then the role: the shape of an image that the caller may write, or the number that refuses it.
+pub fn writer(image: &[u8], o: Options) -> Judged
+    ensures { λ r. ⌜ r ≡ verdict (firstOf (writingTests o (now (image .entry)))) (shapeOf (now (image .entry))) ⌝ }
+{
+    match judge(image, o) {
+        Judged::Fit(shape) => {
+            if o.role == 1 {
+                return Judged::Refused(BUSY);
+            }
+            if o.role == 0 {
+                return Judged::Refused(INVALID_INPUT);
+            }
+            Judged::Fit(shape)
+        }
+        Judged::Refused(number) => Judged::Refused(number),
+    }
+}
+
+// Changes the state alone; an image that has it already is left as it is.
+fn turn(image: &mut [u8], from: u64, to: u64)
+    requires { ⌜ (256 ≤ length (now image)) × (from ≡ value (now image) state-name) × (to < 2 ^ 32) ⌝ }
+    ensures { λ r. ⌜ now (image .exit) ≡ inState (now (image .entry)) to ⌝ }
+{
+    if from != to {
+        write(image, fields::STATE, to);
+        seal(image);
+    }
+}
+
+// Makes the writing tests and, where they pass, changes the state.
+fn change_state(image: &mut [u8], o: Options, state: u64) -> u32
+    requires { ⌜ state < 2 ^ 32 ⌝ }
+    ensures { λ r. ⌜ (r ≡ unless (firstOf (writingTests o (now (image .entry)))) (now (image .entry)) (inState (now (image .entry)) state) .answer) × (now (image .exit) ≡ unless (firstOf (writingTests o (now (image .entry)))) (now (image .entry)) (inState (now (image .entry)) state) .image) ⌝ }
+{
+    match writer(image, o) {
+        Judged::Fit(shape) => {
+            turn(image, shape.state, state);
+            DONE
+        }
+        Judged::Refused(number) => number,
+    }
+}
+
+// Makes a CLEAN image DIRTY. Any answer but 0 leaves every byte alone.
+pub fn begin(image: &mut [u8], o: Options) -> u32
+    ensures { λ r. ⌜ (r ≡ beginOf o (now (image .entry)) .answer) × (now (image .exit) ≡ beginOf o (now (image .entry)) .image) ⌝ }
+{
+    change_state(image, o, DIRTY)
+}
+
+// Makes a DIRTY image CLEAN. Any answer but 0 leaves every byte alone.
+pub fn checkpoint(image: &mut [u8], o: Options) -> u32
+    ensures { λ r. ⌜ (r ≡ checkpointOf o (now (image .entry)) .answer) × (now (image .exit) ≡ checkpointOf o (now (image .entry)) .image) ⌝ }
+{
+    change_state(image, o, CLEAN)
+}
+
+// Makes the state INVALIDATED, moves the generation on and renews the CRC.
+fn put_invalidated(image: &mut [u8], generation: u64)
+    requires { ⌜ (256 ≤ length (now image)) × (generation ≡ value (now image) generation-name) × (generation % 2 ≡ 0) × (generation ≡ last-generation → ⊥) ⌝ }
+    ensures { λ r. ⌜ now (image .exit) ≡ published (now (image .entry)) ((state-name, 1) ∷ []) ⌝ }
+{
+    write(image, fields::GENERATION, generation + GENERATION_STEP);
+    write(image, fields::STATE, INVALIDATED);
+    seal(image);
+}
+
+// Makes a CLEAN or DIRTY image INVALIDATED. Any answer but 0 leaves every byte alone.
+pub fn invalidate(image: &mut [u8], o: Options) -> u32
+    ensures { λ r. ⌜ (r ≡ invalidateOf o (now (image .entry)) .answer) × (now (image .exit) ≡ invalidateOf o (now (image .entry)) .image) ⌝ }
+{
+    match writer(image, o) {
+        Judged::Fit(shape) => {
+            if shape.generation == LAST_GENERATION {
+                return NEEDS_REBUILD;
+            }
+            put_invalidated(image, shape.generation);
+            DONE
+        }
+        Judged::Refused(number) => number,
+    }
+}
+
+// Puts the user data into its field.
+fn write_user_data(image: &mut [u8], bytes: [u8; 64])
+    requires { ⌜ 256 ≤ length (now image) ⌝ }
+    ensures { λ r. ⌜ now (image .exit) ≡ withUserData (now (image .entry)) bytes ⌝ }
+{
+    let field = field_of(fields::USER_DATA);
+    let at = field.offset;
+    copy_to(image, at, &bytes);
+}
+
+// Puts the user fields, moves the generation on and renews the CRC.
+fn put_user_fields(image: &mut [u8], generation: u64, fields: UserFields)
+    requires { ⌜ (256 ≤ length (now image)) × (generation ≡ value (now image) generation-name) × (generation % 2 ≡ 0) × (generation ≡ last-generation → ⊥) ⌝ }
+    ensures { λ r. ⌜ now (image .exit) ≡ published (withUserData (now (image .entry)) (fields .«user_data»)) ((user-flags, fields .«user_flags») ∷ []) ⌝ }
+{
+    let data = fields.user_data;
+    write_user_data(image, data);
+    write(image, fields::GENERATION, generation + GENERATION_STEP);
+    write(image, fields::USER_FLAGS, fields.user_flags);
+    seal(image);
+}
+
+// Replaces the user fields of a DIRTY image. Any answer but 0 leaves every byte alone.
+pub fn set_user_fields(image: &mut [u8], o: Options, fields: UserFields) -> u32
+    ensures { λ r. ⌜ (r ≡ setUserFieldsOf o (now (image .entry)) fields .answer) × (now (image .exit) ≡ setUserFieldsOf o (now (image .entry)) fields .image) ⌝ }
+{
+    match writer(image, o) {
+        Judged::Fit(shape) => {
+            if shape.state == CLEAN {
+                return INVALID_INPUT;
+            }
+            if shape.generation == LAST_GENERATION {
+                return NEEDS_REBUILD;
+            }
+            put_user_fields(image, shape.generation, fields);
+            DONE
+        }
+        Judged::Refused(number) => number,
+    }
+}
