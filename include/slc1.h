@@ -167,6 +167,14 @@ uint32_t slc1_invalidate(uint8_t *image, size_t length, SLC1_SIX_NUMBERS);
 uint32_t slc1_set_user_fields(
     uint8_t *image, size_t length, SLC1_SIX_NUMBERS, uint64_t user_flags, const uint8_t *user_data, size_t data_length);
 
+/* Commits a batch of 0 to 64 records, each laid out as a slot: meta 1 (u64) for put or 0 for delete, key, zeros to a
+ * multiple of 8, revision (i64), index, zeros to a multiple of 8. A delete has revision and index zero. The last record
+ * for a key decides. 0, or the first reason that holds: the header test's number; 4 or 7 by the role; 7 on CLEAN (begin
+ * first); 1 where the generation is used up; 7 for a batch of another length, over 64 records or with a malformed record;
+ * 1 where the full check fails; 5 where the new keys outnumber the slots left; 6 where the image is ordered and a new key
+ * is below the key of its last slot. */
+uint32_t slc1_commit(uint8_t *image, size_t length, SLC1_SIX_NUMBERS, const uint8_t *batch, size_t batch_length);
+
 /* Revision age. */
 
 /* How the second revision stands against the first: -1 older, 0 the same, 1 newer. */

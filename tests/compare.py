@@ -122,11 +122,49 @@ def writings(comparison):
             comparison.same("set_user_fields", image, asked, comparison.random.getrandbits(64), comparison.random.randbytes(64))
 
 
+def malformed(comparison, o, batch):
+    """A batch that is wrong in one way."""
+    batch, pick = bytearray(batch), comparison.random
+    kind = pick.randrange(5)
+    if kind == 0:
+        return bytes(batch) + b"\0"
+    if kind == 1:
+        return comparison.images.record(o) * pick.choice((63, 64, 65))
+    if batch:
+        at = pick.randrange(len(batch)) if kind < 4 else 0
+        batch[at] = pick.choice((1, 2, 255))
+    return bytes(batch)
+
+
+def histories(comparison):
+    """Long histories of commits on tiny shapes, the library's image and the second program's compared after each."""
+    for _ in range(1400):
+        o = comparison.images.options()._replace(key_size=comparison.random.randrange(1, 4), index_size=comparison.random.randrange(4),
+                                                 slot_capacity=comparison.random.randrange(1, 6))
+        image = comparison.images.history(o, commits=0)
+        second.begin(image, o)
+        for _ in range(comparison.random.randrange(60)):
+            batch = comparison.images.batch(o, 3)
+            if comparison.random.random() < 0.1:
+                batch = malformed(comparison, o, batch)
+            comparison.same("commit", image, o, batch)
+            second.commit(image, o, batch)
+
+
+def commits(comparison):
+    """Commits on damaged images, under other options and roles, ordered and not."""
+    for _ in range(4000):
+        o = comparison.images.options()
+        image = comparison.images.image(o)
+        for _ in range(3):
+            comparison.same("commit", image, comparison.images.asked(o), comparison.images.batch(o, 8))
+
+
 def main():
     seed = int(sys.argv[1]) if len(sys.argv) > 1 else 1
     comparison = Comparison(seed)
     began = time.monotonic()
-    for part in (digests, ages, places, readings, creations, writings):
+    for part in (digests, ages, places, readings, creations, writings, histories, commits):
         part(comparison)
     print(f"{comparison.calls} calls agree with the second program (seed {seed}, {time.monotonic() - began:.0f} s)")
 

@@ -53,6 +53,7 @@ BEGIN = declared("begin", U32, *IMAGE)
 CHECKPOINT = declared("checkpoint", U32, *IMAGE)
 INVALIDATE = declared("invalidate", U32, *IMAGE)
 SET_USER_FIELDS = declared("set_user_fields", U32, *IMAGE, U64, *SLICE)
+COMMIT = declared("commit", U32, *IMAGE, *SLICE)
 MATCH = declared("match", U32, *IMAGE, U64, U64, *SLICE, *WINDOW, *SLICE)
 MATCH_TOTAL = declared("match_total", U64, *IMAGE, U64, U64, *SLICE, *WINDOW, *SLICE)
 MATCH_WRITTEN = declared("match_written", U64, *IMAGE, U64, U64, *SLICE, *WINDOW, *SLICE)
@@ -147,3 +148,7 @@ def invalidate(image, o):
 
 def set_user_fields(image, o, user_flags, user_data):
     return writing(SET_USER_FIELDS, image, *o, user_flags, *lent(user_data))
+
+
+def commit(image, o, batch):
+    return writing(COMMIT, image, *o, *lent(batch))

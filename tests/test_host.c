@@ -183,7 +183,7 @@ static void listings(void)
 static void written(void)
 {
     slc1_options own = {12, 20, 1, 1, 0, SLC1_LOCK_HELD};
-    uint8_t fresh[256 + 56 + 32 + 1], data[64], back[64];
+    uint8_t fresh[256 + 56 + 32 + 1], data[64], back[64], batch[56] = {[0] = 1, [8] = 's', [24] = 5};
 
     memset(fresh, 0xa5, sizeof fresh);
     memset(data, 7, sizeof data);
@@ -193,6 +193,11 @@ static void written(void)
     same("a fresh image", slc1_full_check(fresh, 344, SLC1_OPTIONS(&own)), SLC1_DONE);
     same("user fields on CLEAN", slc1_set_user_fields(fresh, 344, SLC1_OPTIONS(&own), 9, data, 64), SLC1_INVALID_INPUT);
     same("begin", slc1_begin(fresh, 344, SLC1_OPTIONS(&own)), SLC1_DONE);
+    same("commit of a record", slc1_commit(fresh, 344, SLC1_OPTIONS(&own), batch, 56), SLC1_DONE);
+    same("its revision", (uint64_t)slc1_lookup_revision(fresh, 344, SLC1_OPTIONS(&own), batch + 8, 12), 5);
+    same("part of a record", slc1_commit(fresh, 344, SLC1_OPTIONS(&own), batch, 55), SLC1_INVALID_INPUT);
+    batch[8] = 'x';
+    same("no slot left", slc1_commit(fresh, 344, SLC1_OPTIONS(&own), batch, 56), SLC1_FULL);
     same("user data of 63 bytes", slc1_set_user_fields(fresh, 344, SLC1_OPTIONS(&own), 9, data, 63), SLC1_INVALID_INPUT);
     same("user fields", slc1_set_user_fields(fresh, 344, SLC1_OPTIONS(&own), 9, data, 64), SLC1_DONE);
     same("the flags", slc1_user_flags(fresh, 344, SLC1_OPTIONS(&own)), 9);
@@ -204,7 +209,7 @@ static void written(void)
     same("checkpoint of another", slc1_checkpoint(fresh, 344, SLC1_OPTIONS(&own)), SLC1_BUSY);
     own.role = SLC1_LOCK_HELD;
     same("checkpoint", slc1_checkpoint(fresh, 344, SLC1_OPTIONS(&own)), SLC1_DONE);
-    same("the generation", fresh[0x40], 2);
+    same("the generation", fresh[0x40], 4);
     same("invalidate", slc1_invalidate(fresh, 344, SLC1_OPTIONS(&own)), SLC1_DONE);
     same("an image given up", slc1_open_check(fresh, 344, SLC1_OPTIONS(&own)), SLC1_INVALIDATED);
 }

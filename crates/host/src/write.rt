@@ -1,10 +1,12 @@
 // Create and the writing calls. Any number but 0 leaves every lent byte alone.
 ghost use mathlib.Core.Path.{_≡_};
+ghost use Rattle.commit.specs.Commit.{commitOf};
 ghost use Rattle.writing.specs.Create.{createOf};
 ghost use Rattle.writing.specs.State.{beginOf, checkpointOf, invalidateOf};
 ghost use Rattle.host.specs.Options.{optionsOf};
 ghost use Rattle.host.specs.UserData.{setUserFieldsFrom};
 use crate::options::options;
+use commit::commit::commit_batch;
 use header::answer::INVALID_INPUT;
 use header::open::UserFields;
 use numbers::parts::copy_to;
@@ -152,5 +154,33 @@ pub extern "C" fn slc1_set_user_fields(
             user_flags,
             user_data: bytes,
         },
+    )
+}
+
+// Commits a batch: 0, or the number of the first reason that refuses it, every byte then left alone.
+#[no_mangle]
+pub extern "C" fn slc1_commit(
+    image: &mut [u8],
+    key_size: u64,
+    index_size: u64,
+    slot_capacity: u64,
+    user_version: u64,
+    ordered: u64,
+    role: u64,
+    batch: &[u8],
+) -> u32
+    ensures { λ r. ⌜ (r ≡ commitOf (optionsOf «key_size» «index_size» «slot_capacity» «user_version» ordered role) (now (image .entry)) (now (batch .entry)) .answer) × (now (image .exit) ≡ commitOf (optionsOf «key_size» «index_size» «slot_capacity» «user_version» ordered role) (now (image .entry)) (now (batch .entry)) .image) ⌝ }
+{
+    commit_batch(
+        image,
+        options(
+            key_size,
+            index_size,
+            slot_capacity,
+            user_version,
+            ordered,
+            role,
+        ),
+        batch,
     )
 }

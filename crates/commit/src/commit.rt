@@ -1,0 +1,67 @@
+// Commit.
+ghost use mathlib.Core.Path.{_≡_};
+ghost use Prim.Native.Nat.{_+_, _^_, _<_};
+ghost use Rattle.header.specs.Fields.{value, generation};
+ghost use Rattle.header.specs.FirstOf.{firstOf};
+ghost use Rattle.header.specs.Shaped.{Shaped};
+ghost use Rattle.writing.specs.Write.{unless};
+ghost use Rattle.commit.specs.Commit.{furtherTests, committed, commitOf};
+use crate::apply::apply;
+use crate::batch::record_count;
+use crate::news::find_news;
+use crate::news::mark_news;
+use crate::news::news_below;
+use crate::tests::room_test;
+use crate::tests::sound_test;
+use header::answer::DONE;
+use header::answer::INVALID_INPUT;
+use header::answer::NEEDS_REBUILD;
+use header::options::Options;
+use header::shape::Judged;
+use header::shape::Shape;
+use writing::state::writer;
+
+// The state of an image that no writer has open.
+const CLEAN: u64 = 0;
+
+// No even generation comes after this one.
+const LAST_GENERATION: u64 = 18446744073709551614;
+
+// Makes the further tests and, where they pass, commits the batch. Any answer but 0 leaves every byte alone.
+fn commit_in(image: &mut [u8], s: Shape, batch: &[u8]) -> u32
+    requires { ⌜ Shaped s (now image) ⌝ }
+    requires { ⌜ value (now image) generation + 2 < 2 ^ 64 ⌝ }
+    ensures { λ r. ⌜ (r ≡ unless (firstOf (furtherTests s (now (image .entry)) (now (batch .entry)))) (now (image .entry)) (committed s (now (image .entry)) (now (batch .entry))) .answer) × (now (image .exit) ≡ unless (firstOf (furtherTests s (now (image .entry)) (now (batch .entry)))) (now (image .entry)) (committed s (now (image .entry)) (now (batch .entry))) .image) ⌝ }
+{
+    let sound = sound_test(image, s, batch);
+    if sound != DONE {
+        return sound;
+    }
+    let news = find_news(image, s, batch);
+    let room = room_test(image, s, batch, &news);
+    if room != DONE {
+        return room;
+    }
+    let marks = mark_news(batch, s, &news);
+    let count = news_below(&news, record_count(batch, s));
+    apply(image, s, batch, &marks, count);
+    DONE
+}
+
+// Commits a batch to a DIRTY image. Any answer but 0 leaves every byte alone.
+pub fn commit_batch(image: &mut [u8], o: Options, batch: &[u8]) -> u32
+    ensures { λ r. ⌜ (r ≡ commitOf o (now (image .entry)) (now (batch .entry)) .answer) × (now (image .exit) ≡ commitOf o (now (image .entry)) (now (batch .entry)) .image) ⌝ }
+{
+    match writer(image, o) {
+        Judged::Fit(shape) => {
+            if shape.state == CLEAN {
+                return INVALID_INPUT;
+            }
+            if shape.generation == LAST_GENERATION {
+                return NEEDS_REBUILD;
+            }
+            commit_in(image, shape, batch)
+        }
+        Judged::Refused(number) => number,
+    }
+}
