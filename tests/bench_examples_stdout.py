@@ -16,6 +16,45 @@ def vectors():
         yield f"crc32c of {label} {second.crc32c_bitwise(data):08x}"
 
 
+LARGE = second.Options(12, 20, 512, 1, 0, 2)
+SMALL = second.Options(1, 0, 3, 1, 0, 2)
+
+
+def lengths():
+    image = bytearray(45312)
+    second.create(image, LARGE)
+    yield f"length 45311 answers {second.open_check(image[:45311], LARGE).answer}"
+    yield f"length 45312 answers {second.open_check(image, LARGE).answer}"
+    yield f"a key of 11 bytes answers {second.lookup(image, LARGE, b'SENSOR-0001').answer}"
+    yield f"a key of 12 bytes answers {second.lookup(image, LARGE, b'SENSOR-00012').answer}"
+
+
+def record(meta, key):
+    return bytes([meta, *bytes(7), key, *bytes(15)])
+
+
+def begun():
+    image = bytearray(456)
+    second.create(image, SMALL)
+    second.begin(image, SMALL)
+    return image
+
+
+def rebuild():
+    image = begun()
+    for meta in (1, 0):
+        for key in b"abc":
+            second.commit(image, SMALL, record(meta, key))
+            yield f"tombstones {second.full_check(image, SMALL).tombstones}"
+
+
+def no_slot():
+    image = begun()
+    yield f"put then delete answers {second.commit(image, SMALL, record(1, ord('a')) + record(0, ord('a')))}"
+    yield f"slots taken {second.field(image, 'slot_highwater')}"
+
+
 if __name__ == "__main__":
-    for line in vectors():
-        print(line)
+    for lines in (vectors(), lengths(), rebuild(), no_slot()):
+        for line in lines:
+            print(line)

@@ -5,7 +5,6 @@ pub mod Filled
 pub mod Newness
 pub mod Marks
 pub mod Behind
-pub mod Order
 pub mod Ranks
 pub mod NewAt
 pub mod Kept

@@ -104,7 +104,7 @@ module _ (t : Table) (f : ℕ → Bucket) (m : ℕ → ℕ) (g : ℕ → List �
   unfolding bucketsRight
   bucketsRight-agree = all-same (t .B) (λ b l. bucketRight-agree (f b) ∙ ap (bucketRight t) (buckets b l))
 
-  metasRight-agree : metasRight u ≡ metasRight t
+  pub metasRight-agree : metasRight u ≡ metasRight t
   unfolding metasRight
   metasRight-agree = all-same (t .highwater) (λ s l. ap (λ (x : ℕ). eqb x 0 || eqb x 1) (metas s l))
 
@@ -117,7 +117,7 @@ module _ (t : Table) (f : ℕ → Bucket) (m : ℕ → ℕ) (g : ℕ → List �
   eachFound-agree some =
       all-same (t .highwater) (λ s l. ap₂ (λ (alive : Bool) (p : Probed). not alive || foundAt p s) (live-agree s l) (each-probe some s l))
 
-  neverFall-agree : neverFall u ≡ neverFall t
+  pub neverFall-agree : neverFall u ≡ neverFall t
   unfolding neverFall
   neverFall-agree =
       all-same (t .highwater - 1) (λ s l. ap₂ (λ (x y : List ℕ). not (below x y)) (keys (s + 1) (omega arith)) (keys s (omega arith)))

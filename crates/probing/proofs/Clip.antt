@@ -12,7 +12,7 @@ use lib.Dec.{eqb, ltb}
 use borrow.Author.Tests.{ltb-true, lt-ltb, le-ltb}
 use Rattle.probing.specs.Table.{Bucket, EMPTY, TOMBSTONE, FULL, Table, live, liveCount, fullCount, tombstoneCount}
 use Rattle.probing.specs.Probe.{Probed, found, absent, broken, home, next, probe}
-use Rattle.probing.specs.Check.{checks, probes}
+use Rattle.probing.specs.Check.{metasRight, neverFall, checks, probes}
 use Rattle.probing.specs.Sound.{Sound}
 use Rattle.probing.specs.Change.{update, withBucket, takes, placeFrom, place, placed, deletedAt, deleted, appended, rebuiltTo}
 use Rattle.probing.specs.Overflow.{homesOf}
@@ -103,6 +103,14 @@ module _ (t : Table) where
       → checks (clip t) ordered live-count used tombstones ≡ checks t ordered live-count used tombstones
   unfolding clip
   checks-clip = agree.checks-agree t _ _ _ bucket-below meta-below key-below
+
+  pub metasRight-clip : metasRight (clip t) ≡ metasRight t
+  unfolding clip
+  metasRight-clip = agree.metasRight-agree t _ _ _ bucket-below meta-below key-below
+
+  pub neverFall-clip : neverFall (clip t) ≡ neverFall t
+  unfolding clip
+  neverFall-clip = agree.neverFall-agree t _ _ _ bucket-below meta-below key-below
 
   pub probes-clip : 0 < t .B → probes (clip t) ≡ probes t
   unfolding clip

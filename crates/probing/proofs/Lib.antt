@@ -1,4 +1,5 @@
 pub mod Keys
+pub mod Order
 pub mod Round
 pub mod Counting
 pub mod Reading

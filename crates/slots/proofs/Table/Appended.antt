@@ -34,6 +34,17 @@ pub record Holds (s : Shape) (image : List ℕ) (n : ℕ) (bytes : List ℕ) : T
   pub revision : revisionOf s image n ≡ signed (word (part bytes (8 + align8 (s .«key_size»)) 8))
   pub index : indexOf s image n ≡ part bytes (16 + align8 (s .«key_size»)) (s .«index_size»)
 
+-- it still does where the slot reads as it did
+pub holds-then : {s : Shape} {image image′ : List ℕ} {n : ℕ} {bytes : List ℕ} → Holds s image n bytes → SameSlot s image image′ n
+    → Holds s image′ n bytes
+holds-then h same =
+    record {
+      meta = same .meta ∙ h .meta;
+      key = same .key ∙ h .key;
+      revision = same .revision ∙ h .revision;
+      index = same .index ∙ h .index;
+    }
+
 -- the shape with the slot counted is that of the image too
 pub grown-shaped : (s : Shape) (image : List ℕ) → Shaped s image → s .«slot_highwater» < s .«slot_capacity» → Shaped (grown s) image
 unfolding grown
@@ -97,14 +108,7 @@ module _ (s : Shape) (image : List ℕ) (fit : Shaped s image) (room : s .«slot
 
   pub appended-new : Holds s (appended s image bytes) n bytes
   unfolding appended
-  appended-new =
-      let same = indexed-slot s mid mid-fit n room n room in
-      record {
-        meta = same .meta ∙ mid-new .meta;
-        key = same .key ∙ mid-new .key;
-        revision = same .revision ∙ mid-new .revision;
-        index = same .index ∙ mid-new .index;
-      }
+  appended-new = holds-then mid-new (indexed-slot s mid mid-fit n room n room)
 
   abbrev key : List ℕ
   key = part bytes 8 (s .«key_size»)

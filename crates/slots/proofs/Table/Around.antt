@@ -37,6 +37,9 @@ pub record SameSlot (s : Shape) (image image′ : List ℕ) (n : ℕ) : Type 0 w
   pub revision : revisionOf s image′ n ≡ revisionOf s image n
   pub index : indexOf s image′ n ≡ indexOf s image n
 
+pub same-slot-self : {s : Shape} {image : List ℕ} {n : ℕ} → SameSlot s image image n
+same-slot-self = record { meta = refl; key = refl; revision = refl; index = refl }
+
 pub same-slot-then : {s : Shape} {image image′ image″ : List ℕ} {n : ℕ} → SameSlot s image image′ n → SameSlot s image′ image″ n
     → SameSlot s image image″ n
 same-slot-then p q =
@@ -83,6 +86,9 @@ pub record Around (s : Shape) (image image′ : List ℕ) : Type 0 where
   pub size : length image′ ≡ length image
   pub header : (a n : ℕ) → a + n ≤ 256 → part image′ a n ≡ part image a n
   pub behind : (a n : ℕ) → s .«buckets_offset» + 16 * s .«bucket_count» ≤ a → part image′ a n ≡ part image a n
+
+pub around-self : {s : Shape} {image : List ℕ} → Around s image image
+around-self = record { size = refl; header = λ a n l. refl; behind = λ a n l. refl }
 
 pub around-then : {s : Shape} {image image′ image″ : List ℕ} → Around s image image′ → Around s image′ image″ → Around s image image″
 around-then p q =

@@ -26,12 +26,12 @@ below-self [] = refl
 below-self (x ∷ xs) = rw (le-ltb x x (omega arith), eq-eqb x x refl) (below-self xs)
 
 -- what comes before what comes before comes before
-pub below-then : (xs ys zs : List ℕ) → below xs ys ≡ true → below ys zs ≡ true → below xs zs ≡ true
+pub below-trans : (xs ys zs : List ℕ) → below xs ys ≡ true → below ys zs ≡ true → below xs zs ≡ true
 unfolding below
-below-then xs ys [] a b = b
-below-then [] ys (z ∷ zs) a b = refl
-below-then (x ∷ xs) [] (z ∷ zs) a b = absurd (not-both a refl)
-below-then (x ∷ xs) (y ∷ ys) (z ∷ zs) a b = go (or-either (ltb x y) (eqb x y && below xs ys) a) (or-either (ltb y z) (eqb y z && below ys zs) b) (below-then xs ys zs)
+below-trans xs ys [] a b = b
+below-trans [] ys (z ∷ zs) a b = refl
+below-trans (x ∷ xs) [] (z ∷ zs) a b = absurd (not-both a refl)
+below-trans (x ∷ xs) (y ∷ ys) (z ∷ zs) a b = go (or-either (ltb x y) (eqb x y && below xs ys) a) (or-either (ltb y z) (eqb y z && below ys zs) b) (below-trans xs ys zs)
   where
     go :
         (ltb x y ≡ true) ⊎ (eqb x y && below xs ys ≡ true) → (ltb y z ≡ true) ⊎ (eqb y z && below ys zs ≡ true)
@@ -64,3 +64,12 @@ below-or (x ∷ xs) (y ∷ ys) = go (lower-or-not x y) (lower-or-not y x) (below
     go (inr l) (inr q) (inl b) = inl (right-or (ltb x y) (both-and (eq-eqb x y (omega arith)) b))
     go (inr l) (inr q) (inr (inl b)) = inr (inl (right-or (ltb y x) (both-and (eq-eqb y x (omega arith)) b)))
     go (inr l) (inr q) (inr (inr e)) = inr (inr (ap₂ _∷_ (omega arith) e))
+
+-- of two different lists one comes before the other
+pub below-either : (xs ys : List ℕ) → (xs ≡ ys → ⊥) → (below xs ys ≡ true) ⊎ (below ys xs ≡ true)
+below-either xs ys ne = go (below-or xs ys)
+  where
+    go : (below xs ys ≡ true) ⊎ (below ys xs ≡ true) ⊎ (xs ≡ ys) → (below xs ys ≡ true) ⊎ (below ys xs ≡ true)
+    go (inl e) = inl e
+    go (inr (inl e)) = inr e
+    go (inr (inr e)) = absurd (ne e)

@@ -1,0 +1,146 @@
+-- What it says of an image and a batch that none of the commit's tests holds.
+-- Assumes nothing.
+use Prim.Native.Nat.{ℕ, _+_, _-_, _^_, _≤_, _<_}
+use mathlib.Core.Bool.{Bool, true, false, not, _&&_, _||_}
+use mathlib.Core.Path.{_≡_, sym, _∙_}
+use mathlib.Core.List.{List, [], _∷_, _++_}
+use native.Mathlib.Omega.{arith}
+use lib.Dec.{eqb, ltb}
+use borrow.Author.Tests.{eqb-false, ltb-false, not-false}
+use Rattle.header.specs.declared.options.Options.{Options}
+use Rattle.header.specs.declared.shape.Shape.{Shape}
+use Rattle.header.specs.Answer.{needs-rebuild, invalidated, busy, full, out-of-order, invalid-input}
+use Rattle.header.specs.Fields as F
+use Rattle.header.specs.Fields.{value}
+use Rattle.header.specs.FirstOf.{firstOf}
+use Rattle.header.specs.HeaderTest.{INVALIDATED, DIRTY, CLEAN, test1, test2, test3, test4, test5, test6, test7, test8, test9, test10, test11, test12, headerTests, headerTest, shapeOf}
+use Rattle.header.specs.Sizes.{sizesAllowed}
+use Rattle.header.specs.Shaped.{Shaped}
+use Rattle.header.proofs.Firsts.{first-none, fails, neither}
+use Rattle.header.proofs.Fit.{judged-fit, fit-shaped}
+use Rattle.header.proofs.Said.{length-passed}
+use Rattle.image.specs.Table.{tableOf}
+use Rattle.image.specs.Check.{passes}
+use Rattle.writing.specs.State.{writingTests, cleanTest, last-generation, generationTest, userTests}
+use Rattle.writing.proofs.Bytes.{Bytes, value-bound}
+use Rattle.writing.proofs.Tests.{Holds, even-passed, state-passed, header-by-state, header-holds}
+use Rattle.commit.specs.Batch.{batchWrong}
+use Rattle.commit.specs.News.{newCount}
+use Rattle.commit.specs.Commit.{fallsBehind, furtherTests, soundTests, roomTests, commitTests}
+use Rattle.maps.proofs.Formed.{Formed, passes-formed}
+use Rattle.maps.proofs.Grown.{Ready}
+
+pub record Accepted (o : Options) (image batch : List ℕ) : Type 0 where
+  pub header : headerTest o image ≡ 0
+  -- the caller holds the lock
+  pub role : (o .role ≤ 2) × (o .role ≡ 0 → ⊥)
+  pub dirty : value image F.state ≡ DIRTY
+  pub more : value image F.generation + 2 < 2 ^ 64
+  pub right : batchWrong (shapeOf image) batch ≡ false
+  pub ready : Ready (shapeOf image) image batch
+
+-- test 1: "role above 2"
+role-passed : (o : Options) → firstOf (test1 o) ≡ 0 → o .role ≤ 2
+unfolding test1
+role-passed o z =
+    let other : Bool = not (sizesAllowed o) || ltb 1 (o .ordered) in
+    ltb-false 2 (o .role) (neither other (ltb 2 (o .role)) (fails (other || ltb 2 (o .role)) 6 z) .1)
+
+-- test 7: an image that passes the header test is CLEAN or DIRTY
+not-invalidated : (o : Options) (image : List ℕ) → headerTest o image ≡ 0 → value image F.state ≡ INVALIDATED → ⊥
+not-invalidated o image z =
+    let tests = sym (header-by-state o image (header-holds o image z)) ∙ z in
+    let state : Bool = eqb (value image F.state) INVALIDATED in
+    let p = first-none ((state, invalidated) ∷ []) ((eqb (value image F.state) DIRTY && eqb (o .role) 0, needs-rebuild) ∷ []) tt tests in
+    eqb-false _ _ (fails state 2 (p .0))
+
+module _ (o : Options) (image batch : List ℕ) (accepted : firstOf (commitTests o image batch) ≡ 0) where
+  abbrev s : Shape
+  s = shapeOf image
+
+  -- none of the writing calls' tests, and none of the commit's own
+  both : (firstOf (userTests o image) ≡ 0) × (firstOf (furtherTests s image batch) ≡ 0)
+  unfolding commitTests userTests writingTests cleanTest generationTest headerTests test1 test2 test3 test4 test5 test6 test7 test8 test9 test10 test11 test12
+  both = first-none (userTests o image) (furtherTests s image batch) tt accepted
+
+  writing : (firstOf (writingTests o image ++ cleanTest image) ≡ 0) × (firstOf (generationTest image) ≡ 0)
+  unfolding userTests writingTests cleanTest headerTests test1 test2 test3 test4 test5 test6 test7 test8 test9 test10 test11 test12
+  writing = first-none (writingTests o image ++ cleanTest image) (generationTest image) tt (both .0)
+
+  state : (firstOf (writingTests o image) ≡ 0) × (firstOf (cleanTest image) ≡ 0)
+  unfolding writingTests headerTests test1 test2 test3 test4 test5 test6 test7 test8 test9 test10 test11 test12
+  state = first-none (writingTests o image) (cleanTest image) tt (writing .0)
+
+  roles : (headerTest o image ≡ 0) × (firstOf ((eqb (o .role) 1, busy) ∷ (eqb (o .role) 0, invalid-input) ∷ []) ≡ 0)
+  unfolding writingTests headerTest headerTests test1 test2 test3 test4 test5 test6 test7 test8 test9 test10 test11 test12
+  roles = first-none (headerTests o image) ((eqb (o .role) 1, busy) ∷ (eqb (o .role) 0, invalid-input) ∷ []) tt (state .0)
+
+  holds : Holds o image
+  holds = header-holds o image (roles .0)
+
+  some-role : o .role ≡ 0 → ⊥
+  some-role =
+      let zero : Bool = eqb (o .role) 0 in
+      eqb-false _ _ (fails zero 6 (first-none ((eqb (o .role) 1, busy) ∷ []) ((zero, invalid-input) ∷ []) tt (roles .1) .1))
+
+  not-clean : value image F.state ≡ CLEAN → ⊥
+  unfolding cleanTest
+  not-clean = eqb-false _ _ (fails (eqb (value image F.state) CLEAN) 6 (state .1))
+
+  not-last : value image F.generation ≡ last-generation → ⊥
+  unfolding generationTest
+  not-last = eqb-false _ _ (fails (eqb (value image F.generation) last-generation) 0 (writing .1))
+
+  -- the commit's own tests
+  record Further : Type 0 where
+    right : batchWrong s batch ≡ false
+    passed : passes s image ≡ true
+    room : newCount s image batch ≤ s .«slot_capacity» - s .«slot_highwater»
+    ahead : fallsBehind s image batch ≡ false
+
+  further : Further
+  unfolding furtherTests soundTests roomTests
+  further =
+      let wrong : Bool = batchWrong s batch in
+      let fails-check : Bool = not (passes s image) in
+      let beyond : Bool = ltb (s .«slot_capacity» - s .«slot_highwater») (newCount s image batch) in
+      let behind : Bool = fallsBehind s image batch in
+      let p₁ = first-none ((wrong, invalid-input) ∷ []) _ tt (both .1) in
+      let p₂ = first-none ((fails-check, needs-rebuild) ∷ []) _ tt (p₁ .1) in
+      let p₃ = first-none ((beyond, full) ∷ []) ((behind, out-of-order) ∷ []) tt (p₂ .1) in
+      record {
+        right = fails wrong 6 (p₁ .0);
+        passed = not-false (passes s image) (fails fails-check 0 (p₂ .0));
+        room = ltb-false _ _ (fails beyond 4 (p₃ .0));
+        ahead = fails behind 5 (p₃ .1);
+      }
+
+  fit : Shaped s image
+  fit = fit-shaped o image s (judged-fit o image (roles .0))
+
+  formed : Formed (s .ordered) (tableOf s image)
+  unfolding passes tableOf
+  formed =
+      passes-formed (tableOf s image) (s .«live_count») (s .«bucket_tombstones») (further .passed) (fit .counters) (omega (arith, fit .highwater, fit .room))
+
+  is-dirty : value image F.state ≡ DIRTY
+  is-dirty =
+      let low = state-passed image (holds .sixth) in
+      omega (arith, not-clean, not-invalidated o image (roles .0))
+
+  has-more : Bytes image → value image F.generation + 2 < 2 ^ 64
+  has-more bytes =
+      let bound : value image F.generation < 2 ^ 64 = value-bound image bytes (length-passed image (holds .second)) F.generation in
+      let even = even-passed o image (holds .fourth) in
+      omega (arith, not-last)
+
+  pub accepted-facts : Bytes image → Accepted o image batch
+  accepted-facts bytes =
+      record {
+        header = roles .0;
+        role = (role-passed o (holds .first), some-role);
+        dirty = is-dirty;
+        more = has-more bytes;
+        right = further .right;
+        ready = record { fit = fit; formed = formed; room = omega (arith, further .room, fit .highwater); ahead = further .ahead };
+      }

@@ -1,0 +1,148 @@
+-- What an accepted commit leaves: an image that passes the header test and the full check, with few tombstones, whose live slots
+-- and keys are those of the image and the batch.
+-- Assumes nothing.
+use Prim.Native.Nat.{ℕ, _+_, _*_, _^_, _≤_, _<_}
+use mathlib.Core.Bool.{true}
+use mathlib.Core.Path.{_≡_, refl, sym, _∙_}
+use mathlib.Core.Logic.{_↔_}
+use mathlib.Core.List.{List}
+use native.Mathlib.Nat.{le-refl}
+use native.Mathlib.Omega.{arith}
+use lib.ListN.{length}
+use Rattle.numbers.specs.Bytes.{part}
+use Rattle.header.specs.declared.options.Options.{Options}
+use Rattle.header.specs.declared.shape.Shape.{Shape}
+use Rattle.header.specs.Fields as F
+use Rattle.header.specs.Fields.{value}
+use Rattle.header.specs.FirstOf.{firstOf}
+use Rattle.header.specs.HeaderTest.{headerTest, shapeOf}
+use Rattle.image.specs.Table.{metaOf, keyOf}
+use Rattle.image.specs.Check.{passes}
+use Rattle.image.proofs.FullCheck.{Whole, passes-whole}
+use Rattle.writing.proofs.Bytes.{Bytes}
+use Rattle.writing.proofs.Tests.{header-holds}
+use Rattle.writing.proofs.Kept.{withRole}
+use Rattle.slots.proofs.Table.Around.{around-bytes, around-shape, SameSlot, same-slot-then}
+use Rattle.slots.proofs.Table.Appended.{Holds, holds-then}
+use Rattle.slots.proofs.Table.Counted as write
+use Rattle.commit.specs.Batch.{recordCount, recordAt}
+use Rattle.commit.specs.News.{newCount, newAt}
+use Rattle.commit.specs.Commit.{withCounters, withSlots, afterLive, afterNew, tidied, recounted, committed, commitTests, commitOf}
+use Rattle.maps.proofs.Live.{Spared, Kept, live-kept}
+use Rattle.maps.proofs.Grown.{Grown, new-grown}
+use Rattle.maps.proofs.Settled.{is-tidy, settled-length, settled-slot, settled-behind, settled-shape, settled-passes}
+use Rattle.maps.proofs.Lent.{new-lent, tidied-lent, committed-lent}
+use Rattle.maps.proofs.Header.{header-passes}
+use Rattle.maps.proofs.Accepted.{Accepted, accepted-facts}
+
+-- the shape that a commit leaves: the counters are those of the table, the generation has moved on by 2
+unfoldable pub shapeAfter : List ℕ → List ℕ → Shape
+shapeAfter image batch =
+    let s = shapeOf image in
+    let n = newCount s image batch in
+    let given = withSlots s (s .«slot_highwater» + n) in
+    write.recounted s (recounted given (tidied given (afterNew s image batch n)))
+
+-- What a commit leaves of an image.
+pub record Committed (o : Options) (image batch image′ : List ℕ) : Type 0 where
+  pub size : length image′ ≡ length image
+  pub bytes : Bytes image′
+  pub behind : (a n : ℕ) → shapeOf image .«buckets_offset» + 16 * shapeOf image .«bucket_count» ≤ a → part image′ a n ≡ part image a n
+  -- the header test and the full check pass, for this caller and, the header test, beside it
+  pub whole : Whole o image′
+  pub header : (role : ℕ) → role ≤ 2 → (role ≡ 0 → ⊥) → headerTest (withRole o role) image′ ≡ 0
+  pub passes : passes (shapeOf image′) image′ ≡ true
+  pub shape : shapeOf image′ ≡ shapeAfter image batch
+  pub few : 4 * shapeOf image′ .«bucket_tombstones» ≤ shapeOf image .«bucket_count»
+  -- an old slot keeps its key, and is live if it was and its key is not deleted
+  pub keys : (n : ℕ) → n < shapeOf image .«slot_highwater» → keyOf (shapeOf image) image′ n ≡ keyOf (shapeOf image) image n
+  pub lives : (n : ℕ) → n < shapeOf image .«slot_highwater»
+      → (metaOf (shapeOf image) image′ n ≡ 1)
+      ↔ ((metaOf (shapeOf image) image n ≡ 1) × Spared (shapeOf image) batch (recordCount (shapeOf image) batch) (keyOf (shapeOf image) image n))
+  -- a new slot holds its record
+  pub new : (q : ℕ) → q < newCount (shapeOf image) image batch
+      → Holds (shapeOf image) image′ (shapeOf image .«slot_highwater» + q)
+      (recordAt (shapeOf image) batch (newAt (shapeOf image) image batch q))
+
+module _ (o : Options) (image batch : List ℕ) (lent : Bytes image) (lent-batch : Bytes batch) (facts : Accepted o image batch) where
+  abbrev s : Shape
+  s = shapeOf image
+
+  abbrev count : ℕ
+  count = newCount s image batch
+
+  abbrev n : ℕ
+  n = s .«slot_highwater» + count
+
+  abbrev grown : List ℕ
+  grown = afterNew s image batch count
+
+  abbrev image′ : List ℕ
+  image′ = committed s image batch
+
+  has-grown : Grown s image batch count grown
+  has-grown = new-grown s image batch (facts .ready) count (le-refl _)
+
+  kept : Kept s image batch (recordCount s batch) (afterLive s image batch (recordCount s batch))
+  kept = live-kept s image batch (facts .ready .fit) (facts .ready .formed) (recordCount s batch) (le-refl _)
+
+  head : shapeOf grown ≡ s
+  head = around-shape (has-grown .around)
+
+  header′ : (role : ℕ) → role ≤ 2 → (role ≡ 0 → ⊥) → headerTest (withRole o role) image′ ≡ 0
+  unfolding committed
+  header′ =
+      header-passes o image (header-holds o image (facts .header)) n grown (has-grown .around) head (has-grown .fit) (has-grown .formed)
+      (facts .more) (tidied-lent (withSlots s n) grown (new-lent s batch lent-batch image lent count)) (facts .dirty)
+
+  more : value grown F.generation + 2 < 2 ^ 64
+  unfolding value
+  more = rw (around-bytes (has-grown .around) F.generation) (facts .more)
+
+  passes′ : passes (shapeOf image′) image′ ≡ true
+  unfolding committed
+  passes′ = settled-passes s n grown head (has-grown .fit) (has-grown .formed) more
+
+  shape′ : shapeOf image′ ≡ shapeAfter image batch
+  unfolding committed shapeAfter
+  shape′ = settled-shape s n grown head (has-grown .fit) (has-grown .formed) more
+
+  few′ : 4 * shapeOf image′ .«bucket_tombstones» ≤ s .«bucket_count»
+  unfolding shapeAfter recounted withSlots withCounters
+  few′ = rw shape′ (is-tidy s n grown head (has-grown .fit) (has-grown .formed) .few)
+
+  -- a slot reads as it did before the end
+  slot′ : (m : ℕ) → m < s .«slot_capacity» → SameSlot s grown image′ m
+  unfolding committed
+  slot′ = settled-slot s n grown head (has-grown .fit) (has-grown .formed)
+
+  old′ : (m : ℕ) → m < s .«slot_highwater» → SameSlot s (afterLive s image batch (recordCount s batch)) image′ m
+  old′ m l = same-slot-then (has-grown .old m l) (slot′ m (omega (arith, facts .ready .fit .highwater)))
+
+  new′ : (q : ℕ) → q < count → Holds s image′ (s .«slot_highwater» + q) (recordAt s batch (newAt s image batch q))
+  new′ q l = holds-then (has-grown .new q l) (slot′ (s .«slot_highwater» + q) (omega (arith, facts .ready .room)))
+
+  pub committed-image : Committed o image batch image′
+  unfolding committed
+  committed-image =
+      let whole = header′ (o .role) (facts .role .0) (facts .role .1) in
+      record {
+        size = settled-length s n grown head (has-grown .fit) (has-grown .formed) ∙ has-grown .around .size;
+        bytes = committed-lent s image batch lent lent-batch;
+        behind = λ a k l. settled-behind s n grown head (has-grown .fit) (has-grown .formed) a k l ∙ has-grown .around .behind a k l;
+        whole = passes-whole o image′ whole passes′;
+        header = header′;
+        passes = passes′;
+        shape = shape′;
+        few = few′;
+        keys = λ m l. old′ m l .key ∙ kept .keys m (omega (arith, facts .ready .fit .highwater));
+        lives = λ m l. (λ e. kept .lives m l .0 (sym (old′ m l .meta) ∙ e), λ e. old′ m l .meta ∙ kept .lives m l .1 e);
+        new = new′;
+      }
+
+-- An accepted commit leaves an image that is whole again, with few tombstones, and the slots that the batch asks for.
+pub accepted-commit : (o : Options) (image batch : List ℕ) → Bytes image → Bytes batch → firstOf (commitTests o image batch) ≡ 0
+    → (commitOf o image batch .answer ≡ 0) × Committed o image batch (commitOf o image batch .image)
+unfolding commitOf
+accepted-commit o image batch lent lent-batch e =
+    rw e (refl, committed-image o image batch lent lent-batch (accepted-facts o image batch e lent))

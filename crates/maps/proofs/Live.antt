@@ -1,0 +1,216 @@
+-- What the records do to live keys: a put rewrites, a delete takes the key's slot out of the index, and all else stays.
+-- Assumes nothing.
+use Prim.Native.Nat.{ℕ, zero, suc, _+_, _-_, _%_, _≤_, _<_}
+use mathlib.Core.Bool.{Bool, true, false, cond}
+use mathlib.Core.Path.{_≡_, refl, sym, ap, subst, _∙_}
+use mathlib.Core.Logic.{_↔_}
+use mathlib.Core.List.{List}
+use native.Mathlib.Nat.{mod-lt}
+use native.Mathlib.Omega.{arith}
+use lib.Dec.{eqb}
+use Rattle.digests.specs.Fnv.{fnv1a64}
+use Rattle.probing.specs.Probe.{Probed, found, absent, broken, probe}
+use Rattle.probing.specs.Change.{deleted}
+use Rattle.probing.specs.Clip.{clip}
+use Rattle.probing.proofs.Counting.{one-more}
+use Rattle.probing.proofs.Keys.{not-both}
+use Rattle.probing.proofs.Reading.{never-broken, found-iff, absent-iff}
+use Rattle.probing.proofs.Clip.{probe-clip}
+use Rattle.header.specs.declared.shape.Shape.{Shape}
+use Rattle.header.specs.Shaped.{Shaped}
+use Rattle.image.specs.Table.{metaOf, keyOf, tableOf}
+use Rattle.image.specs.Lookup.{probeOf}
+use Rattle.slots.specs.Slots.{rewritten, removed}
+use Rattle.slots.proofs.Table.Around.{Around, around-self, around-then, around-shaped}
+use Rattle.slots.proofs.Table.Rewritten.{rewritten-around, rewritten-meta, rewritten-key, rewritten-table}
+use Rattle.slots.proofs.Table.Removed.{removed-around, removed-meta, removed-other, removed-body, removed-table}
+use Rattle.commit.specs.Batch.{recordCount, recordAt, metaIn, keyAt, decides}
+use Rattle.commit.specs.Commit.{onLive, acted, afterLive}
+use Rattle.commit.proofs.Records.{record-length}
+use Rattle.maps.proofs.Formed.{Formed, formed-clip, clip-formed, deleted-formed}
+
+-- Record i decides and deletes key k.
+pub record Deletes (s : Shape) (batch : List ℕ) (k : List ℕ) (i : ℕ) : Type 0 where
+  pub decides : decides s batch i ≡ true
+  pub meta : eqb (metaIn (recordAt s batch i)) 1 ≡ false
+  pub key : keyAt s batch i ≡ k
+
+-- no record below i deletes key k
+abbrev pub Spared : Shape → List ℕ → ℕ → List ℕ → Type 0
+Spared s batch i k = (j : ℕ) → j < i → Deletes s batch k j → ⊥
+
+-- What the records below i leave.
+pub record Kept (s : Shape) (image batch : List ℕ) (i : ℕ) (image′ : List ℕ) : Type 0 where
+  pub around : Around s image image′
+  pub fit : Shaped s image′
+  pub formed : Formed (s .ordered) (tableOf s image′)
+  pub keys : (n : ℕ) → n < s .«slot_capacity» → keyOf s image′ n ≡ keyOf s image n
+  -- a slot is live if it was and its key is not deleted
+  pub lives : (n : ℕ) → n < s .«slot_highwater» → (metaOf s image′ n ≡ 1) ↔ ((metaOf s image n ≡ 1) × Spared s batch i (keyOf s image n))
+
+module _ (s : Shape) (batch : List ℕ) where
+  spared-more : (i : ℕ) (k : List ℕ) → Spared s batch i k → (Deletes s batch k i → ⊥) → Spared s batch (suc i) k
+  spared-more i k h here = one-more {P = λ j. Deletes s batch k j → ⊥} i h here
+
+  spared-less : (i : ℕ) (k : List ℕ) → Spared s batch (suc i) k → Spared s batch i k
+  spared-less i k h j l = h j (omega arith)
+
+module _ (s : Shape) (image batch : List ℕ) (i : ℕ) (before : List ℕ) (kept : Kept s image batch i before) where
+  abbrev key : List ℕ
+  key = keyAt s batch i
+
+  highwater-inside : (n : ℕ) → n < s .«slot_highwater» → n < s .«slot_capacity»
+  highwater-inside n l = omega (arith, kept .fit .highwater)
+
+  -- a record that deletes no live key leaves the image, or one with the same live slots and keys
+  stays : (after : List ℕ) → Around s before after → Formed (s .ordered) (tableOf s after)
+      → ((n : ℕ) → metaOf s after n ≡ metaOf s before n) → ((n : ℕ) → keyOf s after n ≡ keyOf s before n)
+      → ((n : ℕ) → n < s .«slot_highwater» → metaOf s before n ≡ 1 → keyOf s before n ≡ key → Deletes s batch key i → ⊥)
+      → Kept s image batch (suc i) after
+  stays after around formed metas keys none =
+      record {
+        around = around-then (kept .around) around;
+        fit = around-shaped around (kept .fit);
+        formed = formed;
+        keys = λ n l. keys n ∙ kept .keys n l;
+        lives = λ n l. (
+          λ e. let was = kept .lives n l .0 (sym (metas n) ∙ e) in (was .0, spared-more s batch i _ (was .1) (here n l (sym (metas n) ∙ e))),
+          λ e. metas n ∙ kept .lives n l .1 (e .0, spared-less s batch i _ (e .1)),
+        );
+      }
+    where
+      here : (n : ℕ) → n < s .«slot_highwater» → metaOf s before n ≡ 1 → Deletes s batch (keyOf s image n) i → ⊥
+      here n l alive d =
+          let same = kept .keys n (highwater-inside n l) in
+          none n l alive (same ∙ sym (d .key)) (record { decides = d .decides; meta = d .meta; key = refl })
+
+  -- a record that does not decide
+  undecided : decides s batch i ≡ false → Kept s image batch (suc i) before
+  undecided e =
+      stays before around-self (kept .formed) (λ n. refl) (λ n. refl)
+      (λ n l alive k d. not-both (d .decides) e)
+
+  -- a record whose key is absent
+  on-absent : (count : ℕ) → probe (tableOf s before) key ≡ absent count → Kept s image batch (suc i) before
+  unfolding tableOf
+  on-absent count e =
+      stays before around-self (kept .formed) (λ n. refl) (λ n. refl)
+      (λ n l alive k d. absent-iff (tableOf s before) (kept .formed .sound) key .0 (count, e) n l alive k)
+
+  module _ (inside : i < recordCount s batch) (n count : ℕ) (e : probe (tableOf s before) key ≡ found n count) where
+    hit : (n < s .«slot_highwater») × (metaOf s before n ≡ 1) × (keyOf s before n ≡ key)
+    unfolding tableOf
+    hit = found-iff (tableOf s before) (kept .formed .sound) key n .0 (count, e)
+
+    -- "Put on a live key"
+    on-put : eqb (metaIn (recordAt s batch i)) 1 ≡ true → Kept s image batch (suc i) (rewritten s before n (recordAt s batch i))
+    on-put put =
+        let bytes = recordAt s batch i in
+        let size = record-length s batch i inside in
+        let l = highwater-inside n (hit .0) in
+        stays (rewritten s before n bytes) (rewritten-around s before (kept .fit) n l bytes size)
+        (clip-formed _ (subst (Formed (s .ordered)) (sym (rewritten-table s before (kept .fit) n l bytes size)) (formed-clip _ (kept .formed))))
+        (rewritten-meta s before (kept .fit) n l bytes size) (rewritten-key s before (kept .fit) n l bytes size)
+        (λ m l alive k d. not-both put (d .meta))
+
+    -- "Delete on a live key"
+    module _ (turn : decides s batch i ≡ true) (delete : eqb (metaIn (recordAt s batch i)) 1 ≡ false) where
+      abbrev bucket : ℕ
+      bucket = (fnv1a64 key % s .«bucket_count» + (count - 1)) % s .«bucket_count»
+
+      abbrev after : List ℕ
+      after = removed s before n bucket
+
+      inside-buckets : bucket < s .«bucket_count»
+      inside-buckets = mod-lt _ (omega (arith, kept .fit .room))
+
+      inside-slots : n < s .«slot_capacity»
+      inside-slots = highwater-inside n (hit .0)
+
+      delete-table : clip (tableOf s after) ≡ deleted (clip (tableOf s before)) key
+      unfolding tableOf
+      delete-table = removed-table s before (kept .fit) n bucket inside-slots inside-buckets key count e refl
+
+      delete-formed : Formed (s .ordered) (tableOf s after)
+      unfolding tableOf
+      delete-formed =
+          clip-formed _ (subst (Formed (s .ordered)) (sym delete-table)
+          (deleted-formed (clip (tableOf s before)) (formed-clip _ (kept .formed)) key n count
+          (probe-clip (tableOf s before) (omega (arith, kept .fit .room)) key ∙ e)))
+
+      -- a slot is live if it was and is not the one
+      left : (m : ℕ) → m < s .«slot_highwater» → (metaOf s after m ≡ 1) ↔ ((metaOf s before m ≡ 1) × (m ≡ n → ⊥))
+      left m l = (λ a. (sym (other m l (gone m a)) ∙ a, gone m a), λ b. other m l (b .1) ∙ b .0)
+        where
+          other : (m : ℕ) → m < s .«slot_highwater» → (m ≡ n → ⊥) → metaOf s after m ≡ metaOf s before m
+          other m l = removed-other s before (kept .fit) n bucket inside-slots inside-buckets m (highwater-inside m l)
+
+          gone : (m : ℕ) → metaOf s after m ≡ 1 → m ≡ n → ⊥
+          gone m a same =
+              let z : metaOf s after m ≡ 0 = ap (metaOf s after) same ∙ removed-meta s before (kept .fit) n bucket inside-slots inside-buckets in
+              omega arith
+
+      -- the slot with the key is the one
+      the-one : (m : ℕ) → m < s .«slot_highwater» → metaOf s before m ≡ 1 → keyOf s image m ≡ key → m ≡ n
+      unfolding tableOf
+      the-one m l alive k =
+          kept .formed .sound .different m n l (hit .0) alive (hit .1) (kept .keys m (highwater-inside m l) ∙ k ∙ sym (hit .2))
+
+      on-delete : Kept s image batch (suc i) after
+      on-delete =
+          let around = removed-around s before (kept .fit) n bucket inside-slots inside-buckets in
+          record {
+            around = around-then (kept .around) around;
+            fit = around-shaped around (kept .fit);
+            formed = delete-formed;
+            keys = λ m l. removed-body s before (kept .fit) n bucket inside-slots inside-buckets m l .key ∙ kept .keys m l;
+            lives = λ m l. (λ a. gone m l (left m l .0 a), λ b. left m l .1 (kept .lives m l .1 (b .0, spared-less s batch i _ (b .1)), apart m b));
+          }
+        where
+          gone : (m : ℕ) (l : m < s .«slot_highwater») → (metaOf s before m ≡ 1) × (m ≡ n → ⊥)
+              → (metaOf s image m ≡ 1) × Spared s batch (suc i) (keyOf s image m)
+          gone m l b =
+              let was = kept .lives m l .0 (b .0) in
+              (was .0, spared-more s batch i _ (was .1) (λ d. b .1 (the-one m l (b .0) (sym (d .key)))))
+
+          apart : (m : ℕ) → (metaOf s image m ≡ 1) × Spared s batch (suc i) (keyOf s image m) → m ≡ n → ⊥
+          apart m b same =
+              let k = ap (keyOf s image) same ∙ sym (kept .keys n inside-slots) ∙ hit .2 in
+              b .1 i (omega arith) (record { decides = turn; meta = delete; key = sym k })
+
+  -- one record more
+  pub acted-kept : i < recordCount s batch → Kept s image batch (suc i) (acted s batch i before)
+  unfolding acted probeOf keyAt
+  acted-kept inside = turn (decides s batch i) refl
+    where
+      by-meta : decides s batch i ≡ true → (n count : ℕ) → probe (tableOf s before) key ≡ found n count → (put : Bool)
+          → eqb (metaIn (recordAt s batch i)) 1 ≡ put
+          → Kept s image batch (suc i) (cond put (rewritten s before n (recordAt s batch i))
+          (removed s before n ((fnv1a64 key % s .«bucket_count» + (count - 1)) % s .«bucket_count»)))
+      by-meta d n count e true put = on-put inside n count e put
+      by-meta d n count e false put = on-delete inside n count e d put
+
+      by-probe : decides s batch i ≡ true → (p : Probed) → probe (tableOf s before) key ≡ p → Kept s image batch (suc i) (onLive s before (recordAt s batch i) p)
+      by-probe d (found n count) e = by-meta d n count e (eqb (metaIn (recordAt s batch i)) 1) refl
+      by-probe d (absent count) e = on-absent count e
+      by-probe d broken e = absurd (never-broken (tableOf s before) (kept .formed .sound) key e)
+
+      turn : (d : Bool) → decides s batch i ≡ d
+          → Kept s image batch (suc i) (cond d (onLive s before (recordAt s batch i) (probe (tableOf s before) key)) before)
+      turn true d = by-probe d (probe (tableOf s before) key) refl
+      turn false d = undecided d
+
+-- after the records below i
+pub live-kept : (s : Shape) (image batch : List ℕ) → Shaped s image → Formed (s .ordered) (tableOf s image)
+    → (i : ℕ) → i ≤ recordCount s batch → Kept s image batch i (afterLive s image batch i)
+unfolding afterLive
+live-kept s image batch fit formed zero l =
+    record {
+      around = around-self;
+      fit = fit;
+      formed = formed;
+      keys = λ n l. refl;
+      lives = λ n l. (λ e. (e, λ j m. absurd (omega arith)), λ e. e .0);
+    }
+live-kept s image batch fit formed (suc i) l =
+    acted-kept s image batch i (afterLive s image batch i) (live-kept s image batch fit formed i (omega arith)) (omega arith)

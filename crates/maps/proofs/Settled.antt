@@ -1,0 +1,159 @@
+-- The end of a commit: the index rebuilt where it has many tombstones, and the counters published. The full check passes then.
+-- Assumes nothing.
+use Prim.Native.Nat.{ℕ, _+_, _*_, _^_, _≤_, _<_}
+use mathlib.Core.Bool.{Bool, true, false, cond}
+use mathlib.Core.Path.{_≡_, refl, sym, ap, subst, _∙_}
+use mathlib.Core.List.{List}
+use native.Mathlib.Omega.{arith}
+use lib.Dec.{ltb}
+use lib.ListN.{length}
+use borrow.Author.Tests.{ltb-false}
+use Rattle.numbers.specs.Bytes.{part, word}
+use Rattle.probing.specs.Table.{Table, liveCount, tombstoneCount}
+use Rattle.probing.specs.Check.{checks}
+use Rattle.probing.specs.Change as change
+use Rattle.probing.specs.Clip.{clip}
+use Rattle.probing.proofs.Clip.{tombstoneCount-clip}
+use Rattle.header.specs.declared.shape.Shape.{Shape}
+use Rattle.header.specs.Fields as F
+use Rattle.header.specs.Fields.{value}
+use Rattle.header.specs.HeaderTest.{shapeOf}
+use Rattle.header.specs.Shaped.{Shaped}
+use Rattle.header.specs.Sizes.{bucketsOffset}
+use Rattle.image.specs.Table.{slotAt, keyAt, revisionAt, indexAt, bucketAt, metaOf, keyOf, revisionOf, indexOf, bucketOf, tableOf}
+use Rattle.image.specs.Check.{passes}
+use Rattle.slots.specs.Slots.{rebuilt}
+use Rattle.slots.proofs.Table.Around.{Around, around-self, around-bytes, around-shape, around-shaped, SameSlot, same-slot-self}
+use Rattle.slots.proofs.Table.Rebuilt.{rebuilt-around, rebuilt-slot, rebuilt-table}
+use Rattle.slots.proofs.Table.Counted as write
+use Rattle.commit.specs.Commit.{withCounters, withSlots, tidied, recounted, settled}
+use Rattle.maps.proofs.Formed.{Formed, formed-clip, clip-formed, rebuilt-formed, rebuilt-clear, formed-passes}
+
+-- What is left after "if 4 x tombstones > B, the index is rebuilt".
+pub record Tidy (s : Shape) (image image′ : List ℕ) : Type 0 where
+  pub around : Around s image image′
+  pub fit : Shaped s image′
+  pub slots : (n : ℕ) → n < s .«slot_capacity» → SameSlot s image image′ n
+  pub formed : Formed (s .ordered) (tableOf s image′)
+  pub few : 4 * tombstoneCount (tableOf s image′) ≤ s .«bucket_count»
+
+module _ (s : Shape) (image : List ℕ) (fit : Shaped s image) (formed : Formed (s .ordered) (tableOf s image)) where
+  within : Formed (s .ordered) (clip (tableOf s image))
+  within = formed-clip (tableOf s image) formed
+
+  room : clip (tableOf s image) .highwater < clip (tableOf s image) .B
+  unfolding clip tableOf
+  room = omega (arith, fit .highwater, fit .room)
+
+  rebuilt-tidy : Tidy s image (rebuilt s image)
+  rebuilt-tidy =
+      record {
+        around = rebuilt-around s image fit;
+        fit = around-shaped (rebuilt-around s image fit) fit;
+        slots = rebuilt-slot s image fit;
+        formed = clip-formed _ (subst (Formed (s .ordered)) (sym (rebuilt-table s image fit)) (rebuilt-formed (clip (tableOf s image)) within room));
+        few = omega (arith, clear);
+      }
+    where
+      clear : tombstoneCount (tableOf s (rebuilt s image)) ≡ 0
+      clear =
+          sym (tombstoneCount-clip (tableOf s (rebuilt s image)))
+          ∙ ap tombstoneCount (rebuilt-table s image fit)
+          ∙ rebuilt-clear (clip (tableOf s image)) within room
+
+  pub tidied-tidy : Tidy s image (tidied s image)
+  unfolding tidied
+  tidied-tidy = go (ltb (s .«bucket_count») (4 * tombstoneCount (tableOf s image))) refl
+    where
+      go : (many : Bool) → ltb (s .«bucket_count») (4 * tombstoneCount (tableOf s image)) ≡ many → Tidy s image (cond many (rebuilt s image) image)
+      go true e = rebuilt-tidy
+      go false e =
+          record {
+            around = around-self;
+            fit = fit;
+            slots = λ n l. same-slot-self;
+            formed = formed;
+            few = ltb-false (s .«bucket_count») (4 * tombstoneCount (tableOf s image)) e;
+          }
+
+-- Where n slots are given out and the rest of the shape is the header's
+module _ (s : Shape) (n : ℕ) (image : List ℕ) (head : shapeOf image ≡ s) (fit : Shaped (withSlots s n) image)
+    (formed : Formed (s .ordered) (tableOf (withSlots s n) image)) where
+  abbrev given : Shape
+  given = withSlots s n
+
+  abbrev tidy : List ℕ
+  tidy = tidied given image
+
+  abbrev new : Shape
+  new = recounted given tidy
+
+  abbrev after : List ℕ
+  after = settled given image
+
+  pub is-tidy : Tidy given image tidy
+  unfolding withSlots withCounters
+  is-tidy = tidied-tidy given image fit formed
+
+  abbrev table : Table
+  table = tableOf given tidy
+
+  -- the new counters are those of a shape of the image
+  pub recounted-fit : Shaped new tidy
+  unfolding recounted withSlots withCounters tableOf
+  recounted-fit =
+      record {
+        slot = is-tidy .fit .slot;
+        offset = is-tidy .fit .offset;
+        inside = is-tidy .fit .inside;
+        counters = omega (arith, is-tidy .formed .used, is-tidy .formed .balanced);
+        highwater = is-tidy .fit .highwater;
+        room = is-tidy .fit .room;
+        small = is-tidy .fit .small;
+      }
+
+  pub settled-length : length after ≡ length image
+  unfolding settled
+  settled-length = write.counted-length new tidy recounted-fit ∙ is-tidy .around .size
+
+  -- the slots stay, and so does what lies behind the buckets
+  pub settled-slot : (m : ℕ) → m < s .«slot_capacity» → SameSlot s image after m
+  unfolding settled recounted withSlots withCounters metaOf keyOf revisionOf indexOf keyAt revisionAt indexAt slotAt
+  settled-slot m l =
+      let first = is-tidy .slots m l in
+      let then = write.counted-slot new tidy recounted-fit m in
+      record {
+        meta = then .meta ∙ first .meta;
+        key = then .key ∙ first .key;
+        revision = then .revision ∙ first .revision;
+        index = then .index ∙ first .index;
+      }
+
+  pub settled-behind : (a k : ℕ) → s .«buckets_offset» + 16 * s .«bucket_count» ≤ a → part after a k ≡ part image a k
+  unfolding settled withSlots withCounters bucketsOffset
+  settled-behind a k l =
+      write.counted-behind new tidy recounted-fit a k (omega (arith, fit .offset)) ∙ is-tidy .around .behind a k l
+
+  same-generation : value tidy F.generation ≡ value image F.generation
+  unfolding value
+  same-generation = ap word (around-bytes (is-tidy .around) F.generation)
+
+  -- the table stays
+  settled-table : tableOf new after ≡ table
+  unfolding settled recounted withSlots withCounters tableOf bucketOf bucketAt metaOf keyOf keyAt slotAt
+  settled-table = write.counted-table new tidy recounted-fit
+
+  module _ (more : value image F.generation + 2 < 2 ^ 64) where
+    pub settled-shape : shapeOf after ≡ write.recounted s new
+    unfolding settled
+    settled-shape =
+        write.counted-shape new tidy recounted-fit (rw same-generation more)
+        ∙ ap (λ (t : Shape). write.recounted t new) (around-shape (is-tidy .around) ∙ head)
+
+    -- the full check passes
+    pub settled-passes : passes (shapeOf after) after ≡ true
+    unfolding passes recounted withSlots withCounters tableOf bucketOf bucketAt metaOf keyOf keyAt slotAt
+    settled-passes =
+        rw settled-shape
+        (ap (λ (t : Table). checks t (s .ordered) (liveCount table) (liveCount table) (tombstoneCount table)) settled-table
+        ∙ formed-passes table (is-tidy .formed))
