@@ -16,6 +16,7 @@ pub mod MapLive
 pub mod MapNew
 pub mod MapShape
 pub mod MapKept
+pub mod MapFresh
 pub mod ListKept
 pub mod MapSettled
 pub mod MapLaw
