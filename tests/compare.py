@@ -107,14 +107,19 @@ def creations(comparison):
         comparison.same("create", bytearray(comparison.random.randbytes(length)), o)
 
 
+def move_generation(comparison, image):
+    """Sometimes to an end of its range, or odd; the CRC does not cover it."""
+    if len(image) >= 256 and comparison.random.random() < 0.3:
+        generation = comparison.random.choice((0, 1, 2**64 - 1, 2**64 - 2, 2**64 - 3, 2**64 - 4))
+        second.write_field(image, "generation", generation)
+
+
 def writings(comparison):
     """Every state call under every role, state and generation; the whole buffer compared."""
     for _ in range(6000):
         o = comparison.images.options()
         image = comparison.images.image(o)
-        if len(image) >= 256 and comparison.random.random() < 0.3:
-            generation = comparison.random.choice((0, 1, 2**64 - 1, 2**64 - 2, 2**64 - 3, 2**64 - 4))
-            second.write_field(image, "generation", generation)
+        move_generation(comparison, image)
         for _ in range(4):
             asked = comparison.images.asked(o)
             for name in ("begin", "checkpoint", "invalidate"):
@@ -156,6 +161,7 @@ def commits(comparison):
     for _ in range(4000):
         o = comparison.images.options()
         image = comparison.images.image(o)
+        move_generation(comparison, image)
         for _ in range(3):
             comparison.same("commit", image, comparison.images.asked(o), comparison.images.batch(o, 8))
 
