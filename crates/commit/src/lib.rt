@@ -1,7 +1,7 @@
 // Judging a batch and committing it.
-pub mod apply;
-pub mod batch;
+mod apply;
+mod batch;
 pub mod commit;
-pub mod counts;
-pub mod news;
-pub mod tests;
+mod counts;
+mod news;
+mod tests;

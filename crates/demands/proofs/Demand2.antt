@@ -1,0 +1,127 @@
+-- The second demand.
+-- Assumes nothing.
+use Prim.Native.Nat.{ℕ, zero, suc}
+use mathlib.Core.Path.{_≡_, refl, sym, ap, _∙_}
+use mathlib.Core.Bool.{Bool, true, false}
+use mathlib.Core.Logic.{_↔_}
+use mathlib.Core.List.{List, [], _∷_, _++_}
+use mathlib.Core.Option.{some, none}
+use native.Mathlib.Omega.{arith}
+use lib.Dec.{T}
+use lib.ListN.{length, drop}
+use Rattle.header.specs.declared.options.Options.{Options}
+use Rattle.header.specs.declared.shape.Judged.the-variants.{Fit}
+use Rattle.header.specs.Fields as F
+use Rattle.header.specs.Fields.{value}
+use Rattle.header.specs.FirstOf.{firstOf}
+use Rattle.header.specs.HeaderTest.{CLEAN, headerTests, headerTest, shapeOf, judged, test1, test2, test3, test4, test5, test6, test7, test8, test9, test10, test11, test12}
+use Rattle.header.specs.Sizes.{totalSize}
+use Rattle.header.proofs.Firsts.{named}
+use Rattle.header.proofs.Fit.{judged-fit, fit-key-size, fit-shaped}
+use Rattle.image.proofs.Places.{key-length}
+use Rattle.image.proofs.FullCheck.{Whole, passes-whole, whole-passes, full-check-law}
+use Rattle.probing.proofs.Keys.{clash}
+use Rattle.writing.specs.Create.{createTests, freshFields, fresh, createOf}
+use Rattle.writing.specs.State.{writingTests, cleanTest, generationTest, userTests}
+use Rattle.writing.proofs.Answers.{answers, accepted}
+use Rattle.writing.proofs.Became.{invalidated-header}
+use Rattle.writing.proofs.Fresh.{fresh-value}
+use Rattle.writing.proofs.StateLaws.{checkpoint-became, invalidate-became}
+use Rattle.commit.specs.Commit.{soundTests, roomTests, furtherTests, commitTests, committed, commitOf}
+use Rattle.maps.specs.Map.{Entry, Map, mapOf}
+use Rattle.maps.proofs.MapSlots.{some-iff}
+use Rattle.maps.proofs.ReadsMap.{lookup-some, lookup-none}
+use Rattle.demands.specs.History.{Word, withRole, writer}
+use Rattle.demands.specs.Demand2.{ReadsBack, NoneHolds, Demand2}
+use Rattle.demands.proofs.Held.{Held, create-none, writer-header, checkpoint-done, begin-done, held}
+use Rattle.demands.proofs.Scanned.{lists-map, scanned}
+
+module _ {o : Options} {image : List ℕ} {m : Map} (h : Held o image m) where
+  pub writer-whole : Whole (writer o) image
+  writer-whole = passes-whole (writer o) image (writer-header h) (h .passed)
+
+  module _ (role : ℕ) (z : headerTest (withRole o role) image ≡ 0) where
+    whole : Whole (withRole o role) image
+    whole = passes-whole (withRole o role) image z (h .passed)
+
+    mapped : (key : List ℕ) → mapOf (shapeOf image) image key ≡ m key
+    mapped key = ap (λ (f : Map). f key) (h .map)
+
+    fit : judged (withRole o role) image ≡ Fit (shapeOf image)
+    fit = judged-fit (withRole o role) image z
+
+    -- a key of the map has the right length: it is a slot's
+    key-sized : (key : List ℕ) (e : Entry) → m key ≡ some e → length key ≡ shapeOf image .«key_size»
+    key-sized key e q =
+        let s = shapeOf image in
+        let has = some-iff s image (whole .sound) key e .0 (mapped key ∙ q) in
+        let shaped = fit-shaped (withRole o role) image s fit in
+        ap length (sym (has .1 .key)) ∙ key-length s image shaped (has .0) (omega (arith, has .1 .below, shaped .highwater))
+
+    pub reads-back : ReadsBack (withRole o role) image m
+    reads-back =
+        record {
+          has = λ key e q. lookup-some (withRole o role) image key z (key-sized key e q) (whole .sound) e (mapped key ∙ q);
+          lacks =
+              λ key size q. lookup-none (withRole o role) image key z (size ∙ sym (fit-key-size (withRole o role) image (shapeOf image) fit)) (whole .sound) (mapped key ∙ q) .0;
+          scans =
+              λ limit numbers high long. rw (scanned image (withRole o role) z limit numbers high long, sym (h .map)) (lists-map image (whole .sound) numbers);
+        }
+
+-- tests none of which gives 0 give 0 just where none holds
+none-holds : (ts : List (Bool × ℕ)) → T (named ts) → (firstOf ts ≡ 0) ↔ NoneHolds ts
+unfolding firstOf
+none-holds [] t = (λ e. tt, λ h. refl)
+none-holds ((true, zero) ∷ ts) t = absurd t
+none-holds ((true, suc n) ∷ ts) t = (λ e. absurd (omega arith), λ h. clash (cc (h .0)))
+none-holds ((false, zero) ∷ ts) t = absurd t
+none-holds ((false, suc n) ∷ ts) t = (λ e. (refl, none-holds ts t .0 e), λ h. none-holds ts t .1 (h .1))
+
+module _ (o : Options) (image batch : List ℕ) where
+  commit-answers : commitOf o image batch .answer ≡ firstOf (commitTests o image batch)
+  unfolding commitOf
+  commit-answers = answers image (committed (shapeOf image) image batch) (firstOf (commitTests o image batch))
+
+  commit-left : commitOf o image batch .answer ≡ 0 → commitOf o image batch .image ≡ committed (shapeOf image) image batch
+  unfolding commitOf
+  commit-left a =
+      accepted image (committed (shapeOf image) image batch) (firstOf (commitTests o image batch)) (sym commit-answers ∙ a)
+
+  commit-named : T (named (commitTests o image batch))
+  unfolding commitTests userTests writingTests headerTests test1 test2 test3 test4 test5 test6 test7 test8 test9 test10 test11 test12 cleanTest generationTest furtherTests soundTests roomTests
+  commit-named = tt
+
+fresh-left : (o : Options) (buffer : List ℕ) → createOf o buffer .answer ≡ 0 → createOf o buffer .image ≡ fresh o ++ drop (totalSize o) buffer
+unfolding createOf
+fresh-left o buffer a = accepted buffer (fresh o ++ drop (totalSize o) buffer) (firstOf (createTests o buffer)) (create-none o buffer a)
+
+fresh-is-clean : (o : Options) (buffer : List ℕ) → Word (o .«user_version») → createOf o buffer .answer ≡ 0 → value (createOf o buffer .image) F.state ≡ CLEAN
+unfolding freshFields
+fresh-is-clean o buffer version a = fresh-value o buffer (create-none o buffer a) version F.state tt
+
+pub demand2 : Demand2
+demand2 =
+    record {
+      reads = λ o image m h role z. reads-back (held h) role z;
+      passes-dirty = λ o image m h. held h .dirty;
+      passes-clean = λ o image m h. held h .clean;
+      fresh-clean = fresh-is-clean;
+      fresh-bytes = fresh-left;
+      bytes = commit-left;
+      refusals = commit-answers;
+      only-then =
+          λ o image batch.
+          let iff = none-holds (commitTests o image batch) (commit-named o image batch) in
+          (λ a. iff .0 (sym (commit-answers o image batch) ∙ a), λ n. commit-answers o image batch ∙ iff .1 n);
+      checks = λ o image m h. full-check-law (writer o) image .1 (writer-whole (held h));
+      check-passes =
+          λ o image.
+          let law = full-check-law o image in
+          (λ a. let w = law .0 a in (w .header, whole-passes o image w), λ p. law .1 (passes-whole o image (p .0) (p .1)));
+      begins = λ o image m h. begin-done (held h);
+      checkpoints =
+          λ o image m h.
+          let done = checkpoint-done (held h) in
+          (done, checkpoint-became (writer o) image (held h .bytes) done .in-state);
+      invalidates = λ o image m h a role low. invalidated-header (invalidate-became (writer o) image (held h .bytes) a) role low;
+    }

@@ -1,0 +1,14 @@
+pub mod Demand1
+pub mod Demand2
+pub mod Demand3
+pub mod Examples
+pub mod Calls
+pub mod Exports
+pub mod OneOutcome
+pub mod Held
+pub mod Scanned
+pub mod Ascending
+pub mod Reading
+pub mod Numbered
+pub mod Steps
+pub mod Story

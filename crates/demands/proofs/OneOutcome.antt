@@ -1,0 +1,78 @@
+-- One outcome: what follows from the inputs alone coincides.
+-- Assumes nothing.
+use mathlib.Core.Path.{_≡_, sym, _∙_}
+use Rattle.demands.specs.Owes.{Owes, One}
+use Rattle.demands.specs.Outcomes.{Outcomes}
+
+module _
+    {K : Type 0} {Arguments Result Exit : K → Type 0} {Outcome : Type 0}
+    {after : (κ : K) → Arguments κ → Result κ → Exit κ → Type 0} {outcome : (κ : K) → Result κ → Exit κ → Outcome}
+    {definition : (κ : K) → Arguments κ → Outcome} where
+  -- outcomes that are one definition's coincide
+  follows-one :
+      ((κ : K) (a : Arguments κ) (x : Result κ) (e : Exit κ) → after κ a x e → outcome κ x e ≡ definition κ a) → One after outcome
+  follows-one follows κ a x y e f p q = follows κ a x e p ∙ sym (follows κ a y f q)
+
+  -- a call that meets its contract, takes any arguments and follows a definition owes nothing more
+  pub owing :
+      {theorem : Type 1 → Type 2} {before : (κ : K) → Arguments κ → Type 0} → ((M : Type 1) → theorem M)
+      → ((κ : K) (a : Arguments κ) → before κ a)
+      → ((κ : K) (a : Arguments κ) (x : Result κ) (e : Exit κ) → after κ a x e → outcome κ x e ≡ definition κ a)
+      → Owes theorem before after outcome definition
+  owing met any follows = record { met = λ {M}. met M; any = any; follows = follows; one = follows-one follows }
+
+pub outcomes : Outcomes
+outcomes =
+    record {
+      same-bytes = follows-one (λ κ a x e p. p);
+      comes-before = follows-one (λ κ a x e p. p);
+      all-zero = follows-one (λ κ a x e p. p);
+      copy-to = follows-one (λ κ a x e p. p);
+      clear = follows-one (λ κ a x e p. p);
+      wide = follows-one (λ κ a x e p. p .0);
+      u32-at = follows-one (λ κ a x e p. p);
+      u64-at = follows-one (λ κ a x e p. p);
+      signed-of = follows-one (λ κ a x e p. p);
+      put-u32 = follows-one (λ κ a x e p. p);
+      put-u64 = follows-one (λ κ a x e p. p);
+      wrapping-mul = follows-one (λ κ a x e p. p);
+      crc32c-of = follows-one (λ κ a x e p. p);
+      header-crc = follows-one (λ κ a x e p. p);
+      fnv1a64-of = follows-one (λ κ a x e p. p);
+      refuse = follows-one (λ κ a x e p. p);
+      field-of = follows-one (λ κ a x e p. p);
+      read = follows-one (λ κ a x e p. p);
+      bytes-in = follows-one (λ κ a x e p. p);
+      judge = follows-one (λ κ a x e p. p);
+      options-test = follows-one (λ κ a x e p. p);
+      sizes-allowed = follows-one (λ κ a x e p. p);
+      align8 = follows-one (λ κ a x e p. p);
+      slot-size = follows-one (λ κ a x e p. p);
+      power-of-two = follows-one (λ κ a x e p. p);
+      bucket-count = follows-one (λ κ a x e p. p);
+      buckets-offset = follows-one (λ κ a x e p. p);
+      total-size = follows-one (λ κ a x e p. p);
+      passes-check = follows-one (λ κ a x e p. p);
+      revision-at = follows-one (λ κ a x e p. p);
+      slot-index = follows-one (λ κ a x e p. p);
+      lookup-in = follows-one (λ κ a x e p. p);
+      slot-at = follows-one (λ κ a x e p. p);
+      bucket-at = follows-one (λ κ a x e p. p);
+      meta-at = follows-one (λ κ a x e p. p);
+      key-part = follows-one (λ κ a x e p. p);
+      hash64-at = follows-one (λ κ a x e p. p);
+      slot-plus1-at = follows-one (λ κ a x e p. p);
+      next-bucket = follows-one (λ κ a x e p. p);
+      probe-for = follows-one (λ κ a x e p. p);
+      refused = follows-one (λ κ a x e p. p);
+      write = follows-one (λ κ a x e p. p);
+      seal = follows-one (λ κ a x e p. p);
+      writer = follows-one (λ κ a x e p. p);
+      rewrite = follows-one (λ κ a x e p. p);
+      remove = follows-one (λ κ a x e p. p);
+      index-slot = follows-one (λ κ a x e p. p);
+      append = follows-one (λ κ a x e p. p);
+      rebuild = follows-one (λ κ a x e p. p);
+      publish = follows-one (λ κ a x e p. p);
+      options = follows-one (λ κ a x e p. p);
+    }

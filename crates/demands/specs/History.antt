@@ -1,0 +1,63 @@
+-- "From a fresh image, its writer's commits act as puts and deletes on a finite map, last operation on a key deciding."
+-- Assumes nothing.
+use Prim.Native.Nat.{ℕ, _^_, _<_}
+use mathlib.Core.Path.{_≡_}
+use mathlib.Core.List.{List}
+use mathlib.Core.Option.{none}
+use lib.ListN.{length, getD}
+use Rattle.header.specs.declared.options.Options.{Options}
+use Rattle.header.specs.declared.open.UserFields.{UserFields}
+use Rattle.header.specs.Answer.{done}
+use Rattle.header.specs.HeaderTest.{shapeOf}
+use Rattle.writing.specs.Create.{createOf}
+use Rattle.writing.specs.State.{beginOf, checkpointOf, setUserFieldsOf}
+use Rattle.commit.specs.Commit.{commitOf}
+use Rattle.maps.specs.Map.{Map, applied}
+
+-- what is lent are bytes, and what is handed over are numbers of 64 bits: the language sees to both
+abbrev pub Bytes : List ℕ → Type 0
+Bytes s = (i : ℕ) → getD s i 0 < 256
+
+abbrev pub Word : ℕ → Type 0
+Word n = n < 2 ^ 64
+
+-- options with another role, and those of the writer: "Role 2: the caller holds the lock"
+abbrev pub withRole : Options → ℕ → Options
+withRole o role =
+    record {
+      «key_size» = o .«key_size»;
+      «index_size» = o .«index_size»;
+      «slot_capacity» = o .«slot_capacity»;
+      «user_version» = o .«user_version»;
+      ordered = o .ordered;
+      role = role;
+    }
+
+abbrev pub writer : Options → Options
+writer o = withRole o 2
+
+-- user fields are a number of 64 bits and 64 bytes
+pub record Handed (fields : UserFields) : Type 0 where
+  pub flags : Word (fields .«user_flags»)
+  pub size : length (fields .«user_data») ≡ 64
+  pub bytes : Bytes (fields .«user_data»)
+
+abbrev pub emptyMap : Map
+emptyMap key = none
+
+-- What a writer can have done under options o, the image that this leaves, and the map that it stands for. A call that is
+-- refused is in it too: it leaves image and map.
+pub data History (o : Options) : List ℕ → Map → Type 0 where
+  -- a fresh image, in a buffer that may be longer and hold anything
+  created : (role : ℕ) (buffer : List ℕ) → Word (o .«user_version») → Bytes buffer
+      → createOf (withRole o role) buffer .answer ≡ done → History o (createOf (withRole o role) buffer .image) emptyMap
+  begun : {image : List ℕ} {m : Map} → History o image m → History o (beginOf (writer o) image .image) m
+  checkpointed : {image : List ℕ} {m : Map} → History o image m → History o (checkpointOf (writer o) image .image) m
+  marked : {image : List ℕ} {m : Map} (fields : UserFields) → Handed fields → History o image m
+      → History o (setUserFieldsOf (writer o) image fields .image) m
+  -- an accepted commit: the batch applied to the map
+  committed : {image : List ℕ} {m : Map} (batch : List ℕ) → Bytes batch → History o image m
+      → commitOf (writer o) image batch .answer ≡ done
+      → History o (commitOf (writer o) image batch .image) (applied (shapeOf image) batch m)
+  refused : {image : List ℕ} {m : Map} (batch : List ℕ) → History o image m
+      → (commitOf (writer o) image batch .answer ≡ done → ⊥) → History o (commitOf (writer o) image batch .image) m

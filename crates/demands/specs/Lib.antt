@@ -1,0 +1,10 @@
+pub mod Demand1
+pub mod Demand2
+pub mod Demand3
+pub mod Examples
+pub mod History
+pub mod Story
+pub mod Calls
+pub mod Exports
+pub mod Outcomes
+pub mod Owes

@@ -1,0 +1,126 @@
+-- "any two outcomes allowed by a promise coincide", for the public functions that the calls are made of. Of a call, what it
+-- owes says so.
+-- Assumes nothing.
+use denote.Ref.{now}
+use Rattle.demands.specs.Owes.{One, arg1}
+use Rattle.numbers.proofs.parts.same_bytes.Reads as same-bytes-reads
+use Rattle.numbers.proofs.parts.comes_before.Reads as comes-before-reads
+use Rattle.numbers.proofs.parts.all_zero.Reads as all-zero-reads
+use Rattle.numbers.proofs.parts.copy_to.Reads as copy-to-reads
+use Rattle.numbers.proofs.parts.clear.Reads as clear-reads
+use Rattle.numbers.proofs.words.wide.Reads as wide-reads
+use Rattle.numbers.proofs.words.u32_at.Reads as u32-at-reads
+use Rattle.numbers.proofs.words.u64_at.Reads as u64-at-reads
+use Rattle.numbers.proofs.words.signed_of.Reads as signed-of-reads
+use Rattle.numbers.proofs.words.put_u32.Reads as put-u32-reads
+use Rattle.numbers.proofs.words.put_u64.Reads as put-u64-reads
+use Rattle.numbers.proofs.words.wrapping_mul.Reads as wrapping-mul-reads
+use Rattle.digests.proofs.crc.crc32c_of.Reads as crc32c-of-reads
+use Rattle.digests.proofs.crc.header_crc.Reads as header-crc-reads
+use Rattle.digests.proofs.fnv.fnv1a64_of.Reads as fnv1a64-of-reads
+use Rattle.header.proofs.answer.refuse.Reads as refuse-reads
+use Rattle.header.proofs.fields.field_of.Reads as field-of-reads
+use Rattle.header.proofs.fields.read.Reads as read-reads
+use Rattle.header.proofs.fields.bytes_in.Reads as bytes-in-reads
+use Rattle.header.proofs.judge.judge.Reads as judge-reads
+use Rattle.header.proofs.options.options_test.Reads as options-test-reads
+use Rattle.header.proofs.sizes.sizes_allowed.Reads as sizes-allowed-reads
+use Rattle.header.proofs.sizes.align8.Reads as align8-reads
+use Rattle.header.proofs.sizes.slot_size.Reads as slot-size-reads
+use Rattle.header.proofs.sizes.power_of_two.Reads as power-of-two-reads
+use Rattle.header.proofs.sizes.bucket_count.Reads as bucket-count-reads
+use Rattle.header.proofs.sizes.buckets_offset.Reads as buckets-offset-reads
+use Rattle.header.proofs.sizes.total_size.Reads as total-size-reads
+use Rattle.image.proofs.check.passes_check.Reads as passes-check-reads
+use Rattle.image.proofs.lookup.revision_at.Reads as revision-at-reads
+use Rattle.image.proofs.lookup.slot_index.Reads as slot-index-reads
+use Rattle.image.proofs.lookup.lookup_in.Reads as lookup-in-reads
+use Rattle.image.proofs.probe.slot_at.Reads as slot-at-reads
+use Rattle.image.proofs.probe.bucket_at.Reads as bucket-at-reads
+use Rattle.image.proofs.probe.meta_at.Reads as meta-at-reads
+use Rattle.image.proofs.probe.key_part.Reads as key-part-reads
+use Rattle.image.proofs.probe.hash64_at.Reads as hash64-at-reads
+use Rattle.image.proofs.probe.slot_plus1_at.Reads as slot-plus1-at-reads
+use Rattle.image.proofs.probe.next_bucket.Reads as next-bucket-reads
+use Rattle.image.proofs.probe.probe_for.Reads as probe-for-reads
+use Rattle.listing.proofs.listed.refused.Reads as refused-reads
+use Rattle.writing.proofs.fields.write.Reads as write-reads
+use Rattle.writing.proofs.fields.seal.Reads as seal-reads
+use Rattle.writing.proofs.state.writer.Reads as writer-reads
+use Rattle.slots.proofs.slots.rewrite.Reads as rewrite-reads
+use Rattle.slots.proofs.slots.remove.Reads as remove-reads
+use Rattle.slots.proofs.slots.index_slot.Reads as index-slot-reads
+use Rattle.slots.proofs.slots.append.Reads as append-reads
+use Rattle.slots.proofs.slots.rebuild.Reads as rebuild-reads
+use Rattle.slots.proofs.slots.publish.Reads as publish-reads
+use Rattle.host.proofs.options.options.Reads as options-reads
+
+pub record Outcomes : Type 0 where
+  -- numbers, parts
+  pub same-bytes : One same-bytes-reads.Post (λ κ x e. x)
+  pub comes-before : One comes-before-reads.Post (λ κ x e. x)
+  pub all-zero : One all-zero-reads.Post (λ κ x e. x)
+  pub copy-to : One copy-to-reads.Post (λ κ x e. now (arg1 e))
+  pub clear : One clear-reads.Post (λ κ x e. now (arg1 e))
+  -- numbers, words
+  pub wide : One wide-reads.Post (λ κ x e. x)
+  pub u32-at : One u32-at-reads.Post (λ κ x e. x)
+  pub u64-at : One u64-at-reads.Post (λ κ x e. x)
+  pub signed-of : One signed-of-reads.Post (λ κ x e. x)
+  pub put-u32 : One put-u32-reads.Post (λ κ x e. now (arg1 e))
+  pub put-u64 : One put-u64-reads.Post (λ κ x e. now (arg1 e))
+  pub wrapping-mul : One wrapping-mul-reads.Post (λ κ x e. x)
+  -- digests, crc
+  pub crc32c-of : One crc32c-of-reads.Post (λ κ x e. x)
+  pub header-crc : One header-crc-reads.Post (λ κ x e. x)
+  -- digests, fnv
+  pub fnv1a64-of : One fnv1a64-of-reads.Post (λ κ x e. x)
+  -- header, answer
+  pub refuse : One refuse-reads.Post (λ κ x e. x)
+  -- header, fields
+  pub field-of : One field-of-reads.Post (λ κ x e. x)
+  pub read : One read-reads.Post (λ κ x e. x)
+  pub bytes-in : One bytes-in-reads.Post (λ κ x e. now x)
+  -- header, judge
+  pub judge : One judge-reads.Post (λ κ x e. x)
+  -- header, options
+  pub options-test : One options-test-reads.Post (λ κ x e. x)
+  -- header, sizes
+  pub sizes-allowed : One sizes-allowed-reads.Post (λ κ x e. x)
+  pub align8 : One align8-reads.Post (λ κ x e. x)
+  pub slot-size : One slot-size-reads.Post (λ κ x e. x)
+  pub power-of-two : One power-of-two-reads.Post (λ κ x e. x)
+  pub bucket-count : One bucket-count-reads.Post (λ κ x e. x)
+  pub buckets-offset : One buckets-offset-reads.Post (λ κ x e. x)
+  pub total-size : One total-size-reads.Post (λ κ x e. x)
+  -- image, check
+  pub passes-check : One passes-check-reads.Post (λ κ x e. x)
+  -- image, lookup
+  pub revision-at : One revision-at-reads.Post (λ κ x e. x)
+  pub slot-index : One slot-index-reads.Post (λ κ x e. now x)
+  pub lookup-in : One lookup-in-reads.Post (λ κ x e. x)
+  -- image, probe
+  pub slot-at : One slot-at-reads.Post (λ κ x e. x)
+  pub bucket-at : One bucket-at-reads.Post (λ κ x e. x)
+  pub meta-at : One meta-at-reads.Post (λ κ x e. x)
+  pub key-part : One key-part-reads.Post (λ κ x e. now x)
+  pub hash64-at : One hash64-at-reads.Post (λ κ x e. x)
+  pub slot-plus1-at : One slot-plus1-at-reads.Post (λ κ x e. x)
+  pub next-bucket : One next-bucket-reads.Post (λ κ x e. x)
+  pub probe-for : One probe-for-reads.Post (λ κ x e. x)
+  -- listing, listed
+  pub refused : One refused-reads.Post (λ κ x e. x)
+  -- writing, fields
+  pub write : One write-reads.Post (λ κ x e. now (arg1 e))
+  pub seal : One seal-reads.Post (λ κ x e. now (arg1 e))
+  -- writing, state
+  pub writer : One writer-reads.Post (λ κ x e. x)
+  -- slots, slots
+  pub rewrite : One rewrite-reads.Post (λ κ x e. now (arg1 e))
+  pub remove : One remove-reads.Post (λ κ x e. now (arg1 e))
+  pub index-slot : One index-slot-reads.Post (λ κ x e. now (arg1 e))
+  pub append : One append-reads.Post (λ κ x e. now (arg1 e))
+  pub rebuild : One rebuild-reads.Post (λ κ x e. now (arg1 e))
+  pub publish : One publish-reads.Post (λ κ x e. now (arg1 e))
+  -- host, options
+  pub options : One options-reads.Post (λ κ x e. x)
