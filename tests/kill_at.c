@@ -1,0 +1,147 @@
+/* Loaded before the C library into a process under test (LD_PRELOAD), to end or hold it at a chosen place, and to note
+ * what it does. All that is wanted comes from the environment:
+ *
+ *     KILL_AT       the number, from 1, of the call of pwrite, fdatasync, fsync or rename at which the process ends
+ *     KILL_SIGNAL   by which signal; SIGKILL if it is not set. After SIGSTOP and SIGCONT the call is made
+ *     KILL_HALF     if set, the first half of a write's bytes is written before
+ *     KILL_CALLS    a file: one line for each of these calls that was made, a write's with its offset and bytes
+ *     KILL_HELD     a file: one byte for each lock that was refused, since another process holds it
+ *     KILL_LOCK     the number, from 1, of the call of flock before which the process stops itself
+ *     KILL_COPY     if set, the process stops itself once in the middle of copying an image
+ *     KILL_PAUSE    microseconds to wait before each of the calls
+ */
+#define _GNU_SOURCE /* RTLD_NEXT */
+
+#include <dlfcn.h>
+#include <errno.h>
+#include <fcntl.h>
+#include <signal.h>
+#include <stdio.h>
+#include <stdlib.h>
+#include <string.h>
+#include <sys/file.h>
+#include <sys/types.h>
+#include <unistd.h>
+
+enum { COPIED_BEFORE = 4096, IMAGE_AT_LEAST = 8192 };
+
+static long calls;
+
+static long number(const char *name, long otherwise)
+{
+    const char *text = getenv(name);
+
+    return text == NULL ? otherwise : atol(text);
+}
+
+static int is_chosen(void)
+{
+    if (number("KILL_PAUSE", 0) > 0)
+        usleep((useconds_t)number("KILL_PAUSE", 0));
+    return ++calls == number("KILL_AT", 0);
+}
+
+static void end_or_hold(void)
+{
+    kill(getpid(), (int)number("KILL_SIGNAL", SIGKILL));
+}
+
+/* Appends to the file that a variable names, if it is set. */
+static FILE *note(const char *variable)
+{
+    const char *path = getenv(variable);
+
+    return path == NULL ? NULL : fopen(path, "a");
+}
+
+static void note_call(const char *name, const unsigned char *bytes, size_t length, off_t offset)
+{
+    FILE *file = note("KILL_CALLS");
+
+    if (file == NULL)
+        return;
+    fprintf(file, "%s %lld ", name, (long long)offset);
+    for (size_t i = 0; i < length; i++)
+        fprintf(file, "%02x", bytes[i]);
+    fputc('\n', file);
+    fclose(file);
+}
+
+ssize_t pwrite(int file, const void *bytes, size_t length, off_t offset)
+{
+    ssize_t (*next)(int, const void *, size_t, off_t) = dlsym(RTLD_NEXT, "pwrite");
+
+    if (is_chosen()) {
+        if (number("KILL_HALF", 0))
+            next(file, bytes, length / 2, offset);
+        end_or_hold();
+    }
+    note_call("pwrite", bytes, length, offset);
+    return next(file, bytes, length, offset);
+}
+
+static int synced(const char *name, int file)
+{
+    int (*next)(int) = dlsym(RTLD_NEXT, name);
+
+    if (is_chosen())
+        end_or_hold();
+    note_call(name, NULL, 0, 0);
+    return next(file);
+}
+
+int fdatasync(int file)
+{
+    return synced("fdatasync", file);
+}
+
+int fsync(int file)
+{
+    return synced("fsync", file);
+}
+
+int rename(const char *from, const char *to)
+{
+    int (*next)(const char *, const char *) = dlsym(RTLD_NEXT, "rename");
+
+    if (is_chosen())
+        end_or_hold();
+    note_call("rename", NULL, 0, 0);
+    return next(from, to);
+}
+
+int flock(int file, int how)
+{
+    static long locks;
+    int (*next)(int, int) = dlsym(RTLD_NEXT, "flock");
+    int done;
+
+    if (++locks == number("KILL_LOCK", 0))
+        kill(getpid(), SIGSTOP);
+    done = next(file, how);
+    if (done != 0 && errno == EWOULDBLOCK) {
+        FILE *held = note("KILL_HELD");
+
+        if (held != NULL) {
+            fputc('x', held);
+            fclose(held);
+        }
+        errno = EWOULDBLOCK;
+    }
+    return done;
+}
+
+/* The bytes are moved, since a copy would be this function again. */
+void *memcpy(void *to, const void *from, size_t length)
+{
+    static int stopped;
+
+    if (length >= IMAGE_AT_LEAST && !stopped && number("KILL_COPY", 0)) {
+        stopped = 1;
+        memmove(to, from, COPIED_BEFORE);
+        kill(getpid(), SIGSTOP);
+        memmove((char *)to + COPIED_BEFORE, (const char *)from + COPIED_BEFORE, length - COPIED_BEFORE);
+        return to;
+    }
+    return memmove(to, from, length);
+}
