@@ -6,7 +6,7 @@ use mathlib.Core.Bool.{true}
 use mathlib.Core.List.{List, _++_}
 use native.Mathlib.Omega.{arith}
 use lib.Dec.{T, lit≤}
-use lib.ListN.{drop}
+use lib.ListN.{take, drop}
 use Rattle.header.specs.declared.options.Options.{Options}
 use Rattle.header.specs.declared.open.UserFields.{UserFields}
 use Rattle.header.specs.declared.shape.Shape.{Shape}
@@ -37,7 +37,9 @@ use Rattle.maps.proofs.MapKept.{kept-map}
 use Rattle.maps.proofs.MapLaw.{commit-map}
 use Rattle.commit.specs.Commit as C
 use Rattle.commit.specs.Commit.{commitTests, commitOf}
-use Rattle.demands.specs.History.{Bytes, Word, withRole, writer, Handed, emptyMap, History, created, begun, checkpointed, marked, committed, refused}
+use Rattle.demands.specs.History.{Bytes, Word, withRole, writer, Handed, emptyMap, History, created, moved, begun, checkpointed, marked, committed, refused}
+use Rattle.demands.proofs.SameBytes.{same-value, same-header}
+use Rattle.demands.proofs.SameReading as same-reading
 
 pub record Held (o : Options) (image : List ℕ) (m : Map) : Type 0 where
   pub bytes : Bytes image
@@ -144,8 +146,22 @@ module _ {o : Options} {image : List ℕ} {m : Map} (held : Held o image m) wher
         map = (λ i k. commit-map (writer o) image batch (held .bytes) z k i) ∙ ap (applied (shapeOf image) batch) (held .map);
       }
 
+  -- the same bytes in another buffer
+  pub held-moved : (image′ : List ℕ) → Bytes image′ → take (totalSize o) image′ ≡ take (totalSize o) image → Held o image′ m
+  unfolding totalSize
+  held-moved image′ bytes same =
+      record {
+        bytes = bytes;
+        dirty = λ role low other. same-header (withRole o role) image image′ same ∙ held .dirty role low other;
+        clean = λ s role low.
+            same-header (withRole o role) image image′ same ∙ held .clean (sym (same-value o image image′ same F.state) ∙ s) role low;
+        passed = same-reading.same-passes (writer o) image image′ same writer-header ∙ held .passed;
+        map = same-reading.same-map (writer o) image image′ same writer-header ∙ held .map;
+      }
+
 pub held : {o : Options} {image : List ℕ} {m : Map} → History o image m → Held o image m
 held {o} (created role buffer version bytes a) = held-created o role buffer version bytes a
+held (moved image′ bytes same h) = held-moved (held h) image′ bytes same
 held (begun h) = held-begun (held h)
 held (checkpointed h) = held-checkpointed (held h)
 held (marked fields handed h) = held-marked (held h) fields handed

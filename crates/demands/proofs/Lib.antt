@@ -2,9 +2,12 @@ pub mod Demand1
 pub mod Demand2
 pub mod Demand3
 pub mod Examples
+pub mod PastTotal
 pub mod Calls
 pub mod Exports
 pub mod OneOutcome
+pub mod SameBytes
+pub mod SameReading
 pub mod Held
 pub mod Scanned
 pub mod Ascending

@@ -4,11 +4,12 @@ use Prim.Native.Nat.{ℕ, _^_, _<_}
 use mathlib.Core.Path.{_≡_}
 use mathlib.Core.List.{List}
 use mathlib.Core.Option.{none}
-use lib.ListN.{length, getD}
+use lib.ListN.{length, getD, take}
 use Rattle.header.specs.declared.options.Options.{Options}
 use Rattle.header.specs.declared.open.UserFields.{UserFields}
 use Rattle.header.specs.Answer.{done}
 use Rattle.header.specs.HeaderTest.{shapeOf}
+use Rattle.header.specs.Sizes.{totalSize}
 use Rattle.writing.specs.Create.{createOf}
 use Rattle.writing.specs.State.{beginOf, checkpointOf, setUserFieldsOf}
 use Rattle.commit.specs.Commit.{commitOf}
@@ -51,6 +52,9 @@ pub data History (o : Options) : List ℕ → Map → Type 0 where
   -- a fresh image, in a buffer that may be longer and hold anything
   created : (role : ℕ) (buffer : List ℕ) → Word (o .«user_version») → Bytes buffer
       → createOf (withRole o role) buffer .answer ≡ done → History o (createOf (withRole o role) buffer .image) emptyMap
+  -- the same bytes lent in another buffer, which past the total may go on differently
+  moved : {image : List ℕ} {m : Map} (image′ : List ℕ) → Bytes image′ → take (totalSize o) image′ ≡ take (totalSize o) image
+      → History o image m → History o image′ m
   begun : {image : List ℕ} {m : Map} → History o image m → History o (beginOf (writer o) image .image) m
   checkpointed : {image : List ℕ} {m : Map} → History o image m → History o (checkpointOf (writer o) image .image) m
   marked : {image : List ℕ} {m : Map} (fields : UserFields) → Handed fields → History o image m

@@ -3,6 +3,7 @@ pub mod Demand2
 pub mod Demand3
 pub mod Examples
 pub mod History
+pub mod PastTotal
 pub mod Story
 pub mod Calls
 pub mod Exports
