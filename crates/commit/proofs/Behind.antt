@@ -11,8 +11,8 @@ use Rattle.numbers.specs.Bytes.{below}
 use Rattle.probing.specs.Counting.{allTo}
 use Rattle.header.specs.declared.shape.Shape.{Shape}
 use Rattle.image.specs.Table.{keyOf}
-use Rattle.commit.specs.Batch.{recordCount, keyAt}
-use Rattle.commit.specs.News.{isNew}
+use Rattle.batch.specs.Batch.{recordCount, keyAt}
+use Rattle.batch.specs.News.{isNew}
 use Rattle.commit.specs.Commit.{fallsBehind}
 
 -- record i has no new key, or one that does not come before that of the last slot

@@ -17,9 +17,10 @@ use Rattle.header.proofs.Firsts.{named, first-stops, neither}
 use Rattle.writing.specs.Write.{unless}
 use Rattle.writing.specs.State.{writingTests, cleanTest, generationTest, userTests}
 use Rattle.writing.proofs.Tests.{past}
-use Rattle.commit.specs.Batch.{most-records, recordCount, batchWrong, someMalformed}
-use Rattle.commit.specs.News.{newCount}
-use Rattle.commit.specs.Commit.{soundTests, roomTests, furtherTests, commitTests, committed, commitOf}
+use Rattle.batch.specs.Batch.{most-records, recordCount, batchWrong, someMalformed}
+use Rattle.batch.specs.News.{newCount}
+use Rattle.applying.specs.Apply.{committed}
+use Rattle.commit.specs.Commit.{soundTests, roomTests, furtherTests, commitTests, commitOf}
 
 -- a number other than 0 that the first test does not give
 passed : (t : Bool) (k m : ℕ) → cond t (suc k) m ≡ 0 → (t ≡ false) × (m ≡ 0)
@@ -37,27 +38,28 @@ module _ (s : Shape) (image batch : List ℕ) where
   sound-stops e h = first-stops (soundTests s image batch) (roomTests s image batch) e h
 
   pub room-decides :
-      firstOf (soundTests s image batch) ≡ 0 → {n : ℕ} → n ≡ firstOf (roomTests s image batch) → n ≡ firstOf (furtherTests s image batch)
+      {m : ℕ} → m ≡ firstOf (soundTests s image batch) → m ≡ 0 → {n : ℕ} → n ≡ firstOf (roomTests s image batch)
+      → n ≡ firstOf (furtherTests s image batch)
   unfolding furtherTests
-  room-decides z e = e ∙ sym (past (soundTests s image batch) (roomTests s image batch) sound-named z)
+  room-decides d z e = e ∙ sym (past (soundTests s image batch) (roomTests s image batch) sound-named (sym d ∙ z))
 
   -- a batch that passes has no more records than allowed
-  pub sound-small : firstOf (soundTests s image batch) ≡ 0 → recordCount s batch ≤ most-records
+  pub sound-small : {n : ℕ} → n ≡ firstOf (soundTests s image batch) → n ≡ 0 → recordCount s batch ≤ most-records
   unfolding soundTests firstOf batchWrong
-  sound-small z =
-      let wrong = passed (batchWrong s batch) 6 _ z .0 in
+  sound-small e z =
+      let wrong = passed (batchWrong s batch) 6 _ (sym e ∙ z) .0 in
       let two = neither (not (eqb (length batch % s .«slot_size») 0) || ltb most-records (recordCount s batch)) (someMalformed s batch) wrong .0 in
       ltb-false most-records (recordCount s batch) (neither (not (eqb (length batch % s .«slot_size») 0)) _ two .1)
 
   -- and its new keys have room
-  pub room-enough : Shaped s image → firstOf (roomTests s image batch) ≡ 0 → s .«slot_highwater» + newCount s image batch ≤ s .«slot_capacity»
+  pub room-enough : Shaped s image → {n : ℕ} → n ≡ firstOf (roomTests s image batch) → n ≡ 0 → s .«slot_highwater» + newCount s image batch ≤ s .«slot_capacity»
   unfolding roomTests firstOf
-  room-enough fit z =
+  room-enough fit e z =
       omega (
         arith,
         fit .highwater,
         ltb-false (s .«slot_capacity» - s .«slot_highwater») (newCount s image batch)
-            (passed (ltb (s .«slot_capacity» - s .«slot_highwater») (newCount s image batch)) 4 _ z .0),
+            (passed (ltb (s .«slot_capacity» - s .«slot_highwater») (newCount s image batch)) 4 _ (sym e ∙ z) .0),
       )
 
 module _ (o : Options) (image batch : List ℕ) where

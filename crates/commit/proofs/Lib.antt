@@ -1,14 +1,2 @@
-pub mod Records
-pub mod Every
-pub mod First
-pub mod Filled
-pub mod Newness
-pub mod Marks
 pub mod Behind
-pub mod Ranks
-pub mod NewAt
-pub mod Kept
-pub mod Acting
-pub mod Tombstones
-pub mod Applied
 pub mod Further

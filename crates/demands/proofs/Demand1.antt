@@ -20,7 +20,8 @@ use Rattle.writing.specs.Create.{createTests, createOf}
 use Rattle.writing.specs.State.{writingTests, cleanTest, generationTest, inState, published, invalidateTests, userTests, withUserData, beginOf, checkpointOf, invalidateOf, setUserFieldsOf}
 use Rattle.writing.proofs.Answers.{answers, refused}
 use Rattle.writing.proofs.Refused.{create-refused, begin-refused, checkpoint-refused, invalidate-refused, user-refused}
-use Rattle.commit.specs.Commit.{soundTests, roomTests, furtherTests, commitTests, committed, commitOf}
+use Rattle.applying.specs.Apply.{committed}
+use Rattle.commit.specs.Commit.{soundTests, roomTests, furtherTests, commitTests, commitOf}
 use Rattle.host.specs.UserData.{setUserFieldsFrom}
 use Rattle.demands.specs.Demand1.{Numbered, Judges, LeavesAlone, Demand1}
 use Rattle.demands.proofs.Calls.{calls}

@@ -35,7 +35,7 @@ use Rattle.maps.proofs.Accepted.{accepted-facts}
 use Rattle.maps.proofs.Committed.{Committed, shapeAfter, accepted-commit}
 use Rattle.maps.proofs.MapKept.{kept-map}
 use Rattle.maps.proofs.MapLaw.{commit-map}
-use Rattle.commit.specs.Commit as C
+use Rattle.applying.specs.Apply as A
 use Rattle.commit.specs.Commit.{commitTests, commitOf}
 use Rattle.demands.specs.History.{Bytes, Word, withRole, writer, Handed, emptyMap, History, created, moved, begun, checkpointed, marked, committed, refused}
 use Rattle.demands.proofs.SameBytes.{same-value, same-header}
@@ -124,7 +124,7 @@ module _ {o : Options} {image : List ℕ} {m : Map} (held : Held o image m) wher
   pub held-refused : (batch : List ℕ) → (commitOf (writer o) image batch .answer ≡ 0 → ⊥) → Held o (commitOf (writer o) image batch .image) m
   unfolding commitOf
   held-refused batch h =
-      rw (W.refused image (C.committed (shapeOf image) image batch) (firstOf (commitTests (writer o) image batch)) h) held
+      rw (W.refused image (A.committed (shapeOf image) image batch) (firstOf (commitTests (writer o) image batch)) h) held
 
   -- an accepted commit leaves the image DIRTY
   still-dirty : (batch : List ℕ) {image′ : List ℕ} → value image F.state ≡ DIRTY → Committed (writer o) image batch image′ → value image′ F.state ≡ DIRTY
@@ -135,7 +135,7 @@ module _ {o : Options} {image : List ℕ} {m : Map} (held : Held o image m) wher
       → Held o (commitOf (writer o) image batch .image) (applied (shapeOf image) batch m)
   unfolding commitOf
   held-committed batch bytes a =
-      let z = sym (answers image (C.committed (shapeOf image) image batch) (firstOf (commitTests (writer o) image batch))) ∙ a in
+      let z = sym (answers image (A.committed (shapeOf image) image batch) (firstOf (commitTests (writer o) image batch))) ∙ a in
       let c = accepted-commit (writer o) image batch (held .bytes) bytes z .1 in
       let d = still-dirty batch (accepted-facts (writer o) image batch z (held .bytes) .dirty) c in
       record {

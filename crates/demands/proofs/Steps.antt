@@ -21,9 +21,10 @@ use Rattle.writing.specs.Write.{withField, withFields, sealed}
 use Rattle.writing.specs.Create.{createTests, freshFields, fresh, createOf}
 use Rattle.writing.specs.State.{writingTests, cleanTest, generationTest, inState, beginOf, checkpointOf, published, userTests}
 use Rattle.slots.specs.Slots.{removed, indexed, appended, counted}
-use Rattle.commit.specs.Batch.{recordCount, recordAt, metaIn, keyIn, keyPadding, revisionAndIndex, indexPadding, malformed, someMalformed, batchWrong, keyAt, decides}
-use Rattle.commit.specs.News.{isNew, newCount, rank, firstTo, newAt}
-use Rattle.commit.specs.Commit.{fallsBehind, soundTests, roomTests, furtherTests, commitTests, acted, afterLive, withCounters, withSlots, afterNew, tidied, recounted, settled, committed, commitOf}
+use Rattle.batch.specs.Batch.{recordCount, recordAt, metaIn, keyIn, keyPadding, revisionAndIndex, indexPadding, malformed, someMalformed, batchWrong, keyAt, decides}
+use Rattle.batch.specs.News.{isNew, newCount, rank, firstTo, newAt}
+use Rattle.applying.specs.Apply.{acted, afterLive, withCounters, withSlots, afterNew, tidied, recounted, settled, committed}
+use Rattle.commit.specs.Commit.{fallsBehind, soundTests, roomTests, furtherTests, commitTests, commitOf}
 use Rattle.demands.specs.Story.{Steps}
 
 pub steps : Steps

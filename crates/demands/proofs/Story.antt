@@ -16,7 +16,7 @@ use Rattle.header.specs.Sizes.{align8}
 use Rattle.writing.specs.Write.{Written}
 use Rattle.writing.proofs.Bytes.{append-bytes, bytes-of-bytes}
 use Rattle.slots.specs.Slots.{all-ones}
-use Rattle.commit.specs.Batch.{recordCount, recordAt, metaIn, keyIn}
+use Rattle.batch.specs.Batch.{recordCount, recordAt, metaIn, keyIn}
 use Rattle.commit.specs.Commit.{commitOf}
 use Rattle.maps.specs.Map.{Map, entryIn, actsOn, appliedTo, applied}
 use Rattle.demands.specs.Demand2.{ReadsBack}

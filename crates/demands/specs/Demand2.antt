@@ -23,7 +23,8 @@ use Rattle.image.specs.Check.{passes, checkOf}
 use Rattle.listing.specs.Scan.{Outcome, scanOf}
 use Rattle.writing.specs.Create.{fresh, createOf}
 use Rattle.writing.specs.State.{beginOf, checkpointOf, invalidateOf}
-use Rattle.commit.specs.Commit.{commitTests, committed, commitOf}
+use Rattle.applying.specs.Apply.{committed}
+use Rattle.commit.specs.Commit.{commitTests, commitOf}
 use Rattle.maps.specs.Map.{Entry, Map}
 use Rattle.demands.specs.History.{Word, withRole, writer, History}
 

@@ -24,8 +24,8 @@ use Rattle.image.specs.Check.{passes}
 use Rattle.writing.specs.State.{writingTests, cleanTest, last-generation, generationTest, userTests}
 use Rattle.writing.proofs.Bytes.{Bytes, value-bound}
 use Rattle.writing.proofs.Tests.{Holds, even-passed, state-passed, header-by-state, header-holds}
-use Rattle.commit.specs.Batch.{batchWrong}
-use Rattle.commit.specs.News.{newCount}
+use Rattle.batch.specs.Batch.{batchWrong}
+use Rattle.batch.specs.News.{newCount}
 use Rattle.commit.specs.Commit.{fallsBehind, furtherTests, soundTests, roomTests, commitTests}
 use Rattle.maps.proofs.Formed.{Formed, passes-formed}
 use Rattle.maps.proofs.Grown.{Ready}

@@ -14,7 +14,7 @@ use Rattle.numbers.specs.Bytes.{same}
 use Rattle.probing.proofs.Keys.{not-both, not-true-false, same-eq, eq-same}
 use Rattle.probing.proofs.Counting.{Some, None, some-or-none}
 use Rattle.header.specs.declared.shape.Shape.{Shape}
-use Rattle.commit.specs.Batch.{recordCount, recordAt, metaIn, keyIn, keyAt, decides}
+use Rattle.batch.specs.Batch.{recordCount, recordAt, metaIn, keyIn, keyAt, decides}
 use Rattle.maps.specs.Map.{Entry, Map, entryIn, actsOn, appliedTo, applied}
 use Rattle.maps.proofs.Deciding.{decides-last, one-decides, deciding}
 

@@ -25,9 +25,10 @@ use Rattle.writing.proofs.Kept.{withRole}
 use Rattle.slots.proofs.Table.Around.{around-bytes, around-shape, SameSlot, same-slot-then}
 use Rattle.slots.proofs.Table.Appended.{Holds, holds-then}
 use Rattle.slots.proofs.Table.Counted as write
-use Rattle.commit.specs.Batch.{recordCount, recordAt}
-use Rattle.commit.specs.News.{newCount, newAt}
-use Rattle.commit.specs.Commit.{withCounters, withSlots, afterLive, afterNew, tidied, recounted, committed, commitTests, commitOf}
+use Rattle.batch.specs.Batch.{recordCount, recordAt}
+use Rattle.batch.specs.News.{newCount, newAt}
+use Rattle.applying.specs.Apply.{withCounters, withSlots, afterLive, afterNew, tidied, recounted, committed}
+use Rattle.commit.specs.Commit.{commitTests, commitOf}
 use Rattle.maps.proofs.Live.{Spared, Kept, live-kept}
 use Rattle.maps.proofs.Grown.{Grown, new-grown}
 use Rattle.maps.proofs.Settled.{is-tidy, settled-length, settled-slot, settled-behind, settled-shape, settled-passes}

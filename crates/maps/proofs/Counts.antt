@@ -11,7 +11,7 @@ use borrow.Author.Tests.{eq-eqb, ne-eqb}
 use Rattle.probing.specs.Counting.{sumTo, one, countTo}
 use Rattle.probing.proofs.Counting.{sum-le, sum-ones, count-change}
 use Rattle.probing.proofs.Keys.{not-both}
-use Rattle.commit.specs.News.{firstTo}
+use Rattle.batch.specs.News.{firstTo}
 
 -- all numbers below n pass a test that always passes
 pub count-all : (n : ℕ) → countTo n (λ i. true) ≡ n

@@ -14,7 +14,7 @@ use Rattle.numbers.specs.Bytes.{same}
 use Rattle.probing.proofs.Counting.{all-at, all-of, Some, None, some-or-none}
 use Rattle.probing.proofs.Keys.{not-both, and-both, both-and, same-eq, eq-same}
 use Rattle.header.specs.declared.shape.Shape.{Shape}
-use Rattle.commit.specs.Batch.{recordCount, keyAt, decides}
+use Rattle.batch.specs.Batch.{recordCount, keyAt, decides}
 
 module _ (s : Shape) (batch : List ℕ) where
   -- whether record j comes after record i and has its key

@@ -25,10 +25,11 @@ use Rattle.image.specs.Lookup.{probeOf}
 use Rattle.slots.specs.Slots.{appended, grown}
 use Rattle.slots.proofs.Table.Around.{Around, around-then, around-shaped, SameSlot, same-slot-self, same-slot-then}
 use Rattle.slots.proofs.Table.Appended.{Holds, holds-then, grown-shaped, appended-around, appended-other, appended-new, appended-table}
-use Rattle.commit.specs.Batch.{recordCount, recordAt, metaIn, keyIn, keyAt}
-use Rattle.commit.specs.News.{isNew, newCount, newAt}
-use Rattle.commit.specs.Commit.{fallsBehind, withCounters, withSlots, afterLive, afterNew}
-use Rattle.commit.proofs.Records.{record-length}
+use Rattle.batch.specs.Batch.{recordCount, recordAt, metaIn, keyIn, keyAt}
+use Rattle.batch.specs.News.{isNew, newCount, newAt}
+use Rattle.applying.specs.Apply.{withCounters, withSlots, afterLive, afterNew}
+use Rattle.commit.specs.Commit.{fallsBehind}
+use Rattle.batch.proofs.Records.{record-length}
 use Rattle.maps.proofs.Formed.{Formed, formed-clip, clip-formed, inserted-formed}
 use Rattle.maps.proofs.Live.{Kept, live-kept}
 use Rattle.maps.proofs.New.{is-new, new-at, keys-differ, keys-rise}

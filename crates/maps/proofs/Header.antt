@@ -23,7 +23,7 @@ use Rattle.writing.proofs.Tests.{Holds, even-passed, header-by-state}
 use Rattle.writing.proofs.Kept.{withRole, any-role}
 use Rattle.slots.proofs.Table.Around.{Around, around-bytes}
 use Rattle.slots.proofs.Table.Counted as write
-use Rattle.commit.specs.Commit.{withCounters, withSlots, tidied, recounted, settled}
+use Rattle.applying.specs.Apply.{withCounters, withSlots, tidied, recounted, settled}
 use Rattle.maps.proofs.Formed.{Formed}
 use Rattle.maps.proofs.Settled.{is-tidy, recounted-fit, settled-length}
 

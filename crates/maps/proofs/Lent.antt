@@ -14,9 +14,9 @@ use Rattle.image.specs.Lookup.{probeOf}
 use Rattle.slots.specs.Slots.{rebuilt}
 use Rattle.writing.proofs.Bytes.{Bytes, take-bytes, drop-bytes}
 use Rattle.slots.proofs.Table.Lent.{rewritten-lent, removed-lent, appended-lent, rebuilt-lent, counted-lent}
-use Rattle.commit.specs.Batch.{recordCount, recordAt, metaIn, keyAt, decides}
-use Rattle.commit.specs.News.{newCount, newAt}
-use Rattle.commit.specs.Commit.{onLive, acted, afterLive, withSlots, afterNew, tidied, recounted, settled, committed}
+use Rattle.batch.specs.Batch.{recordCount, recordAt, metaIn, keyAt, decides}
+use Rattle.batch.specs.News.{newCount, newAt}
+use Rattle.applying.specs.Apply.{onLive, acted, afterLive, withSlots, afterNew, tidied, recounted, settled, committed}
 
 -- one of two lists
 either-lent : (b : Bool) (x y : List ℕ) → Bytes x → Bytes y → Bytes (cond b x y)

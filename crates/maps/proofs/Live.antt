@@ -24,9 +24,9 @@ use Rattle.slots.specs.Slots.{rewritten, removed}
 use Rattle.slots.proofs.Table.Around.{Around, around-self, around-then, around-shaped}
 use Rattle.slots.proofs.Table.Rewritten.{rewritten-around, rewritten-meta, rewritten-key, rewritten-table}
 use Rattle.slots.proofs.Table.Removed.{removed-around, removed-meta, removed-other, removed-body, removed-table}
-use Rattle.commit.specs.Batch.{recordCount, recordAt, metaIn, keyAt, decides}
-use Rattle.commit.specs.Commit.{onLive, acted, afterLive}
-use Rattle.commit.proofs.Records.{record-length}
+use Rattle.batch.specs.Batch.{recordCount, recordAt, metaIn, keyAt, decides}
+use Rattle.applying.specs.Apply.{onLive, acted, afterLive}
+use Rattle.batch.proofs.Records.{record-length}
 use Rattle.maps.proofs.Formed.{Formed, formed-clip, clip-formed, deleted-formed}
 
 -- Record i decides and deletes key k.

@@ -20,9 +20,10 @@ use Rattle.header.specs.HeaderTest.{shapeOf}
 use Rattle.image.specs.Lookup.{probeOf}
 use Rattle.writing.proofs.Bytes.{Bytes}
 use Rattle.slots.proofs.Table.Around.{Around, around-bytes, around-shape}
-use Rattle.commit.specs.Batch.{recordCount, recordAt, metaIn, keyAt}
-use Rattle.commit.specs.News.{newCount, rank, newAt}
-use Rattle.commit.specs.Commit.{withSlots, afterLive, afterNew, committed, commitTests, commitOf}
+use Rattle.batch.specs.Batch.{recordCount, recordAt, metaIn, keyAt}
+use Rattle.batch.specs.News.{newCount, rank, newAt}
+use Rattle.applying.specs.Apply.{withSlots, afterLive, afterNew, committed}
+use Rattle.commit.specs.Commit.{commitTests, commitOf}
 use Rattle.maps.specs.Map.{Entry, mapOf, entryIn, applied}
 use Rattle.maps.proofs.New.{is-new, new-is, new-at, rank-inside, new-placed}
 use Rattle.maps.proofs.Grown.{Ready, new-grown}

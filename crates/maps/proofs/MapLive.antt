@@ -20,10 +20,10 @@ use Rattle.header.specs.Shaped.{Shaped}
 use Rattle.image.specs.Table.{tableOf}
 use Rattle.image.specs.Lookup.{probeOf}
 use Rattle.slots.specs.Slots.{rewritten, removed}
-use Rattle.commit.specs.Batch.{recordCount, recordAt, metaIn, keyIn, keyAt, decides}
-use Rattle.commit.specs.Commit.{onLive, acted, afterLive}
+use Rattle.batch.specs.Batch.{recordCount, recordAt, metaIn, keyIn, keyAt, decides}
+use Rattle.applying.specs.Apply.{onLive, acted, afterLive}
 use Rattle.maps.specs.Map.{Entry, entryAt, entryIn, mapOf}
-use Rattle.commit.proofs.Records.{record-length}
+use Rattle.batch.proofs.Records.{record-length}
 use Rattle.maps.proofs.Formed.{Formed}
 use Rattle.maps.proofs.Live.{live-kept}
 use Rattle.maps.proofs.Applied.{said, Deciding, deciding-one}

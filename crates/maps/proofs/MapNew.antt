@@ -16,11 +16,11 @@ use Rattle.header.specs.declared.shape.Shape.{Shape}
 use Rattle.header.specs.Shaped.{Shaped}
 use Rattle.image.specs.Table.{tableOf}
 use Rattle.slots.specs.Slots.{appended, grown}
-use Rattle.commit.specs.Batch.{recordCount, recordAt, metaIn, keyIn, keyAt}
-use Rattle.commit.specs.News.{newCount, newAt}
-use Rattle.commit.specs.Commit.{withCounters, withSlots, afterLive, afterNew}
+use Rattle.batch.specs.Batch.{recordCount, recordAt, metaIn, keyIn, keyAt}
+use Rattle.batch.specs.News.{newCount, newAt}
+use Rattle.applying.specs.Apply.{withCounters, withSlots, afterLive, afterNew}
 use Rattle.maps.specs.Map.{Entry, entryIn, mapOf}
-use Rattle.commit.proofs.Records.{record-length}
+use Rattle.batch.proofs.Records.{record-length}
 use Rattle.maps.proofs.New.{is-new, new-at}
 use Rattle.maps.proofs.Grown.{as-many, slot-more, Ready, new-grown}
 use Rattle.maps.proofs.Applied.{Deciding, deciding-one}

@@ -12,7 +12,7 @@ use Rattle.header.specs.Shaped.{Shaped}
 use Rattle.image.specs.Table.{tableOf}
 use Rattle.slots.specs.Slots.{counted}
 use Rattle.slots.proofs.Table.Counted as write
-use Rattle.commit.specs.Commit.{withCounters, withSlots, tidied, recounted, settled}
+use Rattle.applying.specs.Apply.{withCounters, withSlots, tidied, recounted, settled}
 use Rattle.maps.specs.Map.{mapOf}
 use Rattle.maps.proofs.Formed.{Formed}
 use Rattle.maps.proofs.Settled.{is-tidy, recounted-fit, settled-shape}

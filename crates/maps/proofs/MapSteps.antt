@@ -18,7 +18,7 @@ use Rattle.slots.proofs.Table.Around.{SameSlot, SameBody}
 use Rattle.slots.proofs.Table.Rewritten.{rewritten-other, rewritten-meta, rewritten-key, rewritten-revision, rewritten-index}
 use Rattle.slots.proofs.Table.Removed.{removed-meta, removed-other, removed-body}
 use Rattle.slots.proofs.Table.Appended.{Holds, appended-other, appended-new}
-use Rattle.commit.specs.Batch.{metaIn, keyIn}
+use Rattle.batch.specs.Batch.{metaIn, keyIn}
 use Rattle.maps.specs.Map.{Entry, entryIn, mapOf}
 use Rattle.maps.proofs.MapSlots.{entryOf, Has, one-has, map-has, map-lacks, map-kept}
 

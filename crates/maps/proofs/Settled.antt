@@ -26,7 +26,7 @@ use Rattle.slots.specs.Slots.{rebuilt}
 use Rattle.slots.proofs.Table.Around.{Around, around-self, around-bytes, around-shape, around-shaped, SameSlot, same-slot-self}
 use Rattle.slots.proofs.Table.Rebuilt.{rebuilt-around, rebuilt-slot, rebuilt-table}
 use Rattle.slots.proofs.Table.Counted as write
-use Rattle.commit.specs.Commit.{withCounters, withSlots, tidied, recounted, settled}
+use Rattle.applying.specs.Apply.{withCounters, withSlots, tidied, recounted, settled}
 use Rattle.maps.proofs.Formed.{Formed, formed-clip, clip-formed, rebuilt-formed, rebuilt-clear, formed-passes}
 
 -- What is left after "if 4 x tombstones > B, the index is rebuilt".

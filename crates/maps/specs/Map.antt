@@ -13,7 +13,7 @@ use Rattle.header.specs.declared.shape.Shape.{Shape}
 use Rattle.header.specs.Sizes.{align8}
 use Rattle.image.specs.Table.{revisionOf, indexOf}
 use Rattle.image.specs.Lookup.{probeOf}
-use Rattle.commit.specs.Batch.{recordCount, recordAt, metaIn, keyIn}
+use Rattle.batch.specs.Batch.{recordCount, recordAt, metaIn, keyIn}
 
 -- what a key has: its revision and its index bytes
 pub record Entry : Type 0 where

@@ -3,8 +3,8 @@
 use mathlib.Core.Path.{_≡_, ap, _∙_, sym}
 use native.Mathlib.Omega.{arith}
 use Rattle.writing.proofs.Answers.{says-refused, says-accepted}
-use Rattle.commit.specs.News.{newCount, newsBelow}
-use Rattle.commit.proofs.Marks.{told-count}
+use Rattle.batch.specs.News.{newCount, newsBelow}
+use Rattle.batch.proofs.Marks.{told-count}
 use Rattle.commit.proofs.Further.{sound-stops, room-decides, sound-small, room-enough}
 use borrow.Author.Needs.{needs}
 use Rattle.commit.proofs.commit.commit_in.Statement.{statement}
@@ -24,7 +24,7 @@ returns c =
 find-news-requires : tie.Need-find-news-requires
 find-news-requires c κs =
     let a = c .before .before .before .before .before .before .args in
-    (search needs, sound-small (a .s) (a .image .now) (a .batch .now) (sym (c .before .before .sound-test .ensures) ∙ c .before .if1 .left))
+    (search needs, sound-small (a .s) (a .image .now) (a .batch .now) (c .before .before .sound-test .ensures) (c .before .if1 .left))
 
 slice-aggregate-room-test : tie.Need-slice-aggregate-room-test
 slice-aggregate-room-test c = search needs
@@ -32,7 +32,7 @@ slice-aggregate-room-test c = search needs
 room-test-requires : tie.Need-room-test-requires
 room-test-requires c κs =
     let a = c .before .before .before .before .before .before .before .before .before .args in
-    (search needs, (sound-small (a .s) (a .image .now) (a .batch .now) (sym (c .before .before .before .before .before .sound-test .ensures) ∙ c .before .before .before .before .if1 .left), c .before .before .find-news .ensures))
+    (search needs, (sound-small (a .s) (a .image .now) (a .batch .now) (c .before .before .before .before .before .sound-test .ensures) (c .before .before .before .before .if1 .left), c .before .before .find-news .ensures))
 
 same-length-2 : tie.Need-same-length-2
 same-length-2 c = search needs
@@ -40,7 +40,7 @@ same-length-2 c = search needs
 returns-2 : tie.Need-returns-2
 returns-2 c =
     let a = c .before .before .before .before .before .before .before .before .before .before .before .args in
-    says-refused (a .image .now) _ _ (room-decides (a .s) (a .image .now) (a .batch .now) (sym (c .before .before .before .before .before .before .before .sound-test .ensures) ∙ c .before .before .before .before .before .before .if1 .left) (c .before .room-test .ensures)) (c .if2 .taken)
+    says-refused (a .image .now) _ _ (room-decides (a .s) (a .image .now) (a .batch .now) (c .before .before .before .before .before .before .before .sound-test .ensures) (c .before .before .before .before .before .before .if1 .left) (c .before .room-test .ensures)) (c .if2 .taken)
 
 slice-aggregate-mark-news : tie.Need-slice-aggregate-mark-news
 slice-aggregate-mark-news c = search needs
@@ -48,7 +48,7 @@ slice-aggregate-mark-news c = search needs
 mark-news-requires : tie.Need-mark-news-requires
 mark-news-requires c κs =
     let a = c .before .before .before .before .before .before .before .before .before .before .before .before .args in
-    (search needs, (sound-small (a .s) (a .image .now) (a .batch .now) (sym (c .before .before .before .before .before .before .before .before .sound-test .ensures) ∙ c .before .before .before .before .before .before .before .if1 .left), c .before .before .before .before .before .find-news .ensures .size))
+    (search needs, (sound-small (a .s) (a .image .now) (a .batch .now) (c .before .before .before .before .before .before .before .before .sound-test .ensures) (c .before .before .before .before .before .before .before .if1 .left), c .before .before .before .before .before .find-news .ensures .size))
 
 slice-aggregate-news-below : tie.Need-slice-aggregate-news-below
 slice-aggregate-news-below c = search needs
@@ -59,7 +59,7 @@ record-count-requires c κs = search needs
 news-below-requires : tie.Need-news-below-requires
 news-below-requires c κs =
     let a = c .before .before .before .before .before .before .before .before .before .before .before .before .before .before .before .args in
-    omega (arith, c .record-count .ensures, sound-small (a .s) (a .image .now) (a .batch .now) (sym (c .before .before .before .before .before .before .before .before .before .before .before .sound-test .ensures) ∙ c .before .before .before .before .before .before .before .before .before .before .if1 .left), c .before .before .before .before .before .before .before .before .find-news .ensures .size)
+    omega (arith, c .record-count .ensures, sound-small (a .s) (a .image .now) (a .batch .now) (c .before .before .before .before .before .before .before .before .before .before .before .sound-test .ensures) (c .before .before .before .before .before .before .before .before .before .before .if1 .left), c .before .before .before .before .before .before .before .before .find-news .ensures .size)
 
 slice-aggregate-apply : tie.Need-slice-aggregate-apply
 slice-aggregate-apply c = search needs
@@ -72,11 +72,11 @@ apply-requires c κs =
     let news = c .before .before .before .before .before .before .before .before .before .before .before .find-news .result in
     let count : c .before .before .news-below .result ≡ newCount (a .s) (a .image .now) (a .batch .now) =
     c .before .before .news-below .ensures ∙ ap (newsBelow news) (c .before .before .before .record-count .ensures) ∙ told-count (a .s) (a .image .now) (a .batch .now) news told in
-    let room = room-enough (a .s) (a .image .now) (a .batch .now) (b .pre .0) (sym (c .before .before .before .before .before .before .before .before .room-test .ensures) ∙ c .before .before .before .before .before .before .before .if2 .left) in (
+    let room = room-enough (a .s) (a .image .now) (a .batch .now) (b .pre .0) (c .before .before .before .before .before .before .before .before .room-test .ensures) (c .before .before .before .before .before .before .before .if2 .left) in (
       b .pre .0,
       (
         b .pre .1,
-        (sound-small (a .s) (a .image .now) (a .batch .now) (sym (c .before .before .before .before .before .before .before .before .before .before .before .before .before .before .sound-test .ensures) ∙ c .before .before .before .before .before .before .before .before .before .before .before .before .before .if1 .left), (c .before .before .before .before .before .mark-news .ensures (a .image .now) told, (count, omega (arith, count, room)))),
+        (sound-small (a .s) (a .image .now) (a .batch .now) (c .before .before .before .before .before .before .before .before .before .before .before .before .before .before .sound-test .ensures) (c .before .before .before .before .before .before .before .before .before .before .before .before .before .if1 .left), (c .before .before .before .before .before .mark-news .ensures (a .image .now) told, (count, omega (arith, count, room)))),
       ),
     )
 
@@ -87,7 +87,7 @@ returns-3 : tie.Need-returns-3
 returns-3 c =
     let a = c .before .before .before .before .before .before .before .before .before .before .before .before .before .before .before .before .before .before .before .before .before .args in
     says-accepted (a .image .now) _ _
-    (sym (c .before .before .before .before .before .before .before .before .before .before .if2 .left) ∙ room-decides (a .s) (a .image .now) (a .batch .now) (sym (c .before .before .before .before .before .before .before .before .before .before .before .before .before .before .before .before .before .sound-test .ensures) ∙ c .before .before .before .before .before .before .before .before .before .before .before .before .before .before .before .before .if1 .left) (c .before .before .before .before .before .before .before .before .before .before .before .room-test .ensures)) (c .before .before .apply .ensures)
+    (sym (c .before .before .before .before .before .before .before .before .before .before .if2 .left) ∙ room-decides (a .s) (a .image .now) (a .batch .now) (c .before .before .before .before .before .before .before .before .before .before .before .before .before .before .before .before .before .sound-test .ensures) (c .before .before .before .before .before .before .before .before .before .before .before .before .before .before .before .before .if1 .left) (c .before .before .before .before .before .before .before .before .before .before .before .room-test .ensures)) (c .before .before .apply .ensures)
 
 pub commit-in-spec : {M : Type 1} → statement M
 commit-in-spec =

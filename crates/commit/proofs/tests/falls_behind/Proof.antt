@@ -7,11 +7,11 @@ use mathlib.Core.Bool.{true, not, _&&_}
 use native.Mathlib.Omega.{arith}
 use lib.Dec.{eqb}
 use lib.ListN.{getD}
-use Rattle.commit.proofs.Marks.{told-new}
-use Rattle.commit.specs.Batch.{recordCount}
+use Rattle.batch.proofs.Marks.{told-new}
+use Rattle.batch.specs.Batch.{recordCount}
 use Rattle.numbers.specs.Bytes.{below}
 use Rattle.probing.specs.Counting.{allTo}
-use Rattle.commit.proofs.Every.{every-more, every-fails}
+use Rattle.batch.proofs.Every.{every-more, every-fails}
 use Rattle.commit.proofs.Behind.{keeps, behind-unordered, behind-none, behind-by-keys}
 use borrow.Author.Tests.{not-true, not-false}
 use Rattle.commit.proofs.tests.falls_behind.Statement.{statement}

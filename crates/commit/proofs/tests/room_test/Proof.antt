@@ -4,8 +4,8 @@ use mathlib.Core.Path.{_≡_, ap, _∙_}
 use Prim.Native.Nat.{_-_}
 use native.Mathlib.Omega.{arith}
 use borrow.Author.Tests.{lt-ltb, le-ltb}
-use Rattle.commit.specs.News.{newCount, newsBelow}
-use Rattle.commit.proofs.Marks.{told-count}
+use Rattle.batch.specs.News.{newCount, newsBelow}
+use Rattle.batch.proofs.Marks.{told-count}
 use Rattle.header.specs.FirstOf.{firstOf}
 use Rattle.commit.specs.Commit.{roomTests}
 use borrow.Author.Needs.{needs}

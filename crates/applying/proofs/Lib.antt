@@ -1,0 +1,4 @@
+pub mod Kept
+pub mod Acting
+pub mod Tombstones
+pub mod Applied

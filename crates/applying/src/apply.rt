@@ -1,0 +1,188 @@
+// What a batch that passed every test does to the image.
+ghost use mathlib.Core.Path.{_≡_};
+ghost use Prim.Native.Nat.{ℕ, _+_, _-_, _%_, _^_, _≤_, _<_};
+ghost use lib.ListN.{length};
+ghost use Rattle.digests.specs.Fnv.{fnv1a64};
+ghost use Rattle.probing.specs.Probe.{found};
+ghost use Rattle.header.specs.Fields.{value, generation};
+ghost use Rattle.header.specs.Shaped.{Shaped};
+ghost use Rattle.image.specs.Lookup.{probeOf};
+ghost use Rattle.batch.specs.Batch.{recordCount, most-records, keyIn};
+ghost use Rattle.batch.specs.News.{newCount, Marked, markedAt};
+ghost use Rattle.applying.specs.Apply.{onLive, acted, afterLive, withCounters, withSlots, oneAppended, appendedTo, tidied, settled, committed};
+use crate::counts::count_live;
+use crate::counts::count_tombstones;
+use batch::batch::decides;
+use batch::batch::key_in;
+use batch::batch::meta_in;
+use batch::batch::record;
+use batch::batch::record_count;
+use batch::news::marked_at;
+use digests::fnv::fnv1a64_of;
+use header::shape::Shape;
+use image::probe::Probe;
+use image::probe::probe_for;
+use slots::slots::append;
+use slots::slots::publish;
+use slots::slots::rebuild;
+use slots::slots::remove;
+use slots::slots::rewrite;
+
+// The last of so many buckets that the probe of a key examines.
+fn last_bucket(s: Shape, key: &[u8], examined: usize) -> usize
+    requires { ⌜ (0 < examined) × (examined ≤ s .«bucket_count») ⌝ }
+    requires { ⌜ s .«bucket_count» ≤ 2 ^ 32 ⌝ }
+    ensures { λ r. ⌜ r ≡ (fnv1a64 (now (key .entry)) % s .«bucket_count» + (examined - 1)) % s .«bucket_count» ⌝ }
+{
+    let count = s.bucket_count;
+    let home = (fnv1a64_of(key) % (count as u64)) as usize;
+    (home + (examined - 1)) % count
+}
+
+// A put rewrites slot n, which has the record's key; a delete clears it and makes its bucket a TOMBSTONE.
+fn act_on_slot(image: &mut [u8], s: Shape, r: &[u8], n: usize, examined: usize)
+    requires { ⌜ Shaped s (now image) ⌝ }
+    requires { ⌜ length (now r) ≡ s .«slot_size» ⌝ }
+    requires { ⌜ n < s .«slot_capacity» ⌝ }
+    requires { ⌜ (0 < examined) × (examined ≤ s .«bucket_count») ⌝ }
+    ensures { λ x. ⌜ now (image .exit) ≡ onLive s (now (image .entry)) (now (r .entry)) (found n examined) ⌝ }
+{
+    if meta_in(r, s) == 1 {
+        rewrite(image, s, n, r);
+        return;
+    }
+    let b = last_bucket(s, key_in(r, s), examined);
+    remove(image, s, n, b);
+}
+
+// A record acts on its key's slot, if the key is live.
+fn act_on_key(image: &mut [u8], s: Shape, r: &[u8])
+    requires { ⌜ Shaped s (now image) ⌝ }
+    requires { ⌜ length (now r) ≡ s .«slot_size» ⌝ }
+    ensures { λ x. ⌜ now (image .exit) ≡ onLive s (now (image .entry)) (now (r .entry)) (probeOf s (now (image .entry)) (keyIn s (now (r .entry)))) ⌝ }
+{
+    let probed = probe_for(image, s, key_in(r, s));
+    match probed {
+        Probe::Found { slot, buckets } => act_on_slot(image, s, r, slot, buckets),
+        Probe::Absent { buckets } => {}
+        Probe::Broken => {}
+    }
+}
+
+// Record i acts on a live key, if it decides.
+fn act(image: &mut [u8], s: Shape, batch: &[u8], i: usize)
+    requires { ⌜ Shaped s (now image) ⌝ }
+    requires { ⌜ i < recordCount s (now batch) ⌝ }
+    ensures { λ r. ⌜ now (image .exit) ≡ acted s (now (batch .entry)) i (now (image .entry)) ⌝ }
+{
+    if decides(batch, s, i) {
+        act_on_key(image, s, record(batch, s, i));
+    }
+}
+
+// Every record acts on a live key, one after the other.
+fn act_all(image: &mut [u8], s: Shape, batch: &[u8])
+    requires { ⌜ Shaped s (now image) ⌝ }
+    ensures { λ r. ⌜ now (image .exit) ≡ afterLive s (now (image .entry)) (now (batch .entry)) (recordCount s (now (batch .entry))) ⌝ }
+{
+    let count = record_count(batch, s);
+    let mut i = 0;
+    while i < count {
+        act(image, s, batch, i);
+        i += 1;
+    }
+}
+
+// A shape with other counters.
+fn with_counters(s: Shape, highwater: usize, live: usize, tombstones: usize) -> Shape
+    ensures { λ r. ⌜ r ≡ withCounters s highwater live tombstones ⌝ }
+{
+    Shape {
+        key_size: s.key_size,
+        index_size: s.index_size,
+        slot_size: s.slot_size,
+        slot_capacity: s.slot_capacity,
+        slot_highwater: highwater,
+        live_count: live,
+        bucket_count: s.bucket_count,
+        bucket_tombstones: tombstones,
+        buckets_offset: s.buckets_offset,
+        ordered: s.ordered,
+        state: s.state,
+        generation: s.generation,
+    }
+}
+
+// A shape with so many slots given out.
+fn with_slots(s: Shape, highwater: usize) -> Shape
+    ensures { λ r. ⌜ r ≡ withSlots s highwater ⌝ }
+{
+    with_counters(s, highwater, s.live_count, s.bucket_tombstones)
+}
+
+// The record marked with 1 more than k becomes the slot that k others come before.
+fn append_one(image: &mut [u8], s: Shape, batch: &[u8], marks: &[u8], k: usize)
+    requires { ⌜ Shaped s (now image) ⌝ }
+    requires { ⌜ (recordCount s (now batch) ≤ length (now marks)) × (k < most-records) ⌝ }
+    requires { ⌜ s .«slot_highwater» + k < s .«slot_capacity» ⌝ }
+    requires { ⌜ markedAt (now marks) (recordCount s (now batch)) k < recordCount s (now batch) ⌝ }
+    ensures { λ r. ⌜ now (image .exit) ≡ oneAppended s (now (batch .entry)) (now (marks .entry)) k (now (image .entry)) ⌝ }
+{
+    let i = marked_at(marks, record_count(batch, s), k);
+    append(
+        image,
+        with_slots(s, s.slot_highwater + k),
+        record(batch, s, i),
+    );
+}
+
+// The new keys get the next slots, in the order of their marks.
+fn append_all(image: &mut [u8], s: Shape, batch: &[u8], marks: &[u8], count: usize)
+    requires { ⌜ Shaped s (now image) ⌝ }
+    requires { ⌜ (recordCount s (now batch) ≤ length (now marks)) × (count ≤ most-records) ⌝ }
+    requires { ⌜ s .«slot_highwater» + count ≤ s .«slot_capacity» ⌝ }
+    requires { ⌜ ((k : ℕ) → k < count → markedAt (now marks) (recordCount s (now batch)) k < recordCount s (now batch)) ⌝ }
+    ensures { λ r. ⌜ now (image .exit) ≡ appendedTo s (now (batch .entry)) (now (marks .entry)) (now (image .entry)) count ⌝ }
+{
+    let mut k = 0;
+    while k < count {
+        append_one(image, s, batch, marks, k);
+        k += 1;
+    }
+}
+
+// Rebuilds the index if more than a quarter of the buckets are TOMBSTONE.
+fn tidy(image: &mut [u8], s: Shape)
+    requires { ⌜ Shaped s (now image) ⌝ }
+    ensures { λ r. ⌜ now (image .exit) ≡ tidied s (now (image .entry)) ⌝ }
+{
+    if s.bucket_count < 4 * count_tombstones(image, s) {
+        rebuild(image, s);
+    }
+}
+
+// Tidies the index, and then publishes the counters.
+fn settle(image: &mut [u8], s: Shape)
+    requires { ⌜ Shaped s (now image) ⌝ }
+    requires { ⌜ value (now image) generation + 2 < 2 ^ 64 ⌝ }
+    ensures { λ r. ⌜ now (image .exit) ≡ settled s (now (image .entry)) ⌝ }
+{
+    tidy(image, s);
+    let live = count_live(image, s);
+    let tombstones = count_tombstones(image, s);
+    publish(image, with_counters(s, s.slot_highwater, live, tombstones));
+}
+
+// Commits a batch that passed every test, by the marks of its records.
+pub fn apply(image: &mut [u8], s: Shape, batch: &[u8], marks: &[u8], count: usize)
+    requires { ⌜ Shaped s (now image) ⌝ }
+    requires { ⌜ value (now image) generation + 2 < 2 ^ 64 ⌝ }
+    requires { ⌜ recordCount s (now batch) ≤ most-records ⌝ }
+    requires { ⌜ Marked s (now image) (now batch) (now marks) ⌝ }
+    requires { ⌜ (count ≡ newCount s (now image) (now batch)) × (s .«slot_highwater» + count ≤ s .«slot_capacity») ⌝ }
+    ensures { λ r. ⌜ now (image .exit) ≡ committed s (now (image .entry)) (now (batch .entry)) ⌝ }
+{
+    act_all(image, s, batch);
+    append_all(image, s, batch, marks, count);
+    settle(image, with_slots(s, s.slot_highwater + count));
+}

@@ -1,0 +1,3 @@
+// Applying a batch that passed every test.
+pub mod apply;
+mod counts;
