@@ -7,6 +7,11 @@
  * A slice is a pointer and a length; the pointer is never NULL, also where the length is 0. Slices lent to one call do
  * not overlap where one of them is written. Nothing is kept between calls: what is lent is the caller's own again when
  * the call returns. No call allocates, blocks or fails otherwise than by the number that it gives back.
+ *
+ * Lent bytes stand still during a call. A shared mapping that another process may write is copied first, and the copy
+ * lent.
+ *
+ * Numbers in images and in records are little-endian on every machine.
  */
 #ifndef SLC1_H
 #define SLC1_H
@@ -34,14 +39,15 @@ enum {
     SLC1_TOO_SHORT = 11     /* a lent output that is too short; nothing was written */
 };
 
-/* What the caller knows of writers. */
+/* What the caller knows of writers, who make an image DIRTY while they change it. It is the caller's word: where it is
+ * not true, an image that a writer left half changed may pass. */
 enum {
-    SLC1_NO_WRITER_KNOWN = 0,
-    SLC1_ANOTHER_WRITER = 1,
-    SLC1_LOCK_HELD = 2 /* and held since the image became dirty, if it is */
+    SLC1_NO_WRITER_KNOWN = 0, /* refuses a DIRTY image: its writer has died */
+    SLC1_ANOTHER_WRITER = 1,  /* accepts one: true only of a writer that made it DIRTY itself and is still at work */
+    SLC1_LOCK_HELD = 2        /* accepts one: true only where the caller has held the lock since it became DIRTY */
 };
 
-/* The options. Calls take them as six numbers, which SLC1_OPTIONS spells out:
+/* The options. Calls take them as six numbers, which SLC1_OPTIONS spells out, evaluating its argument more than once:
  *     slc1_full_check(image, length, SLC1_OPTIONS(&options)) */
 typedef struct slc1_options {
     uint64_t key_size;      /* 1 to 64 bytes */
@@ -70,7 +76,23 @@ uint64_t slc1_key_offset(SLC1_SIX_NUMBERS, uint64_t slot);
 /* Where in the image the index_size bytes of a slot's index begin. */
 uint64_t slc1_index_offset(SLC1_SIX_NUMBERS, uint64_t slot);
 
-/* Open check. */
+/* A slot, and a record of a batch:
+ *
+ *     offset                      width        what it holds
+ *     0                           8            meta, a u64: 1 live or 0 deleted; in a record, 1 put or 0 delete
+ *     SLC1_KEY_AT                 key_size     key, then zeros to a multiple of 8
+ *     SLC1_REVISION_AT(key_size)  8            revision, an i64
+ *     SLC1_INDEX_AT(key_size)     index_size   index, then zeros to a multiple of 8
+ *
+ * It takes SLC1_RECORD_SIZE(key_size, index_size) bytes; a slot begins SLC1_KEY_AT before its slc1_key_offset. Of
+ * constant sizes these are constant expressions. */
+#define SLC1_UP_TO_8(n) (((n) + 7) / 8 * 8)
+#define SLC1_KEY_AT 8
+#define SLC1_REVISION_AT(key_size) (SLC1_KEY_AT + SLC1_UP_TO_8(key_size))
+#define SLC1_INDEX_AT(key_size) (SLC1_REVISION_AT(key_size) + 8)
+#define SLC1_RECORD_SIZE(key_size, index_size) (SLC1_INDEX_AT(key_size) + SLC1_UP_TO_8(index_size))
+
+/* Open check: the header test alone. */
 
 /* Whether the image can be used: 0, 1, 2, 3, 4, 7 or 10. Every call below that is lent an image makes this test first,
  * and answers its number where that is not 0. */
@@ -78,6 +100,8 @@ uint32_t slc1_open_check(const uint8_t *image, size_t length, SLC1_SIX_NUMBERS);
 
 /* The caller's own flags, from the header. 0 where the open check does not give 0. */
 uint64_t slc1_user_flags(const uint8_t *image, size_t length, SLC1_SIX_NUMBERS);
+
+#define SLC1_USER_DATA_SIZE 64
 
 /* Writes the caller's own 64 bytes, from the header, to the start of out. 11 where out is shorter than that. */
 uint32_t slc1_user_data(const uint8_t *image, size_t length, SLC1_SIX_NUMBERS, uint8_t *out, size_t out_length);
@@ -98,7 +122,7 @@ uint64_t slc1_lookup_buckets(const uint8_t *image, size_t length, SLC1_SIX_NUMBE
 
 /* Full check: the header, every slot and every bucket. */
 
-/* 0 where everything fits together, else 1. */
+/* The header test's number where that is not 0; then 0 where everything fits together, else 1. */
 uint32_t slc1_full_check(const uint8_t *image, size_t length, SLC1_SIX_NUMBERS);
 
 /* The number of live slots. */
@@ -151,7 +175,19 @@ uint64_t slc1_match_written(
 uint32_t slc1_create(uint8_t *buffer, size_t length, SLC1_SIX_NUMBERS);
 
 /* The writing calls. They want the role SLC1_LOCK_HELD: another writer gives 4, no writer known gives 7. The image is
- * changed in place; the caller syncs it. */
+ * changed in place. A host that keeps it in a file brings the changes there and syncs them in this order:
+ *
+ *     begin, sync, commits, sync, checkpoint, sync
+ *
+ * DIRTY is then on the disk before any part of a commit, and all commits before CLEAN: after a power cut the image is as
+ * it was, or needs a rebuild, or has every commit.
+ *
+ * The generation, a u64, is for readers beside a writer. Commit, set user fields and invalidate add 2 to it. The host
+ * makes it odd before the first byte of such a change is published, and even, as the call left it, after the last. A
+ * reader's copy is of one moment where the generation was one even number before, in and after it; the header test
+ * refuses an odd one, with 4 under SLC1_ANOTHER_WRITER. Begin and checkpoint change the one word of 8 bytes at 0x70 and
+ * leave the generation alone: beside a writer, a reader's 1 may be half of that word, and worth another try. */
+#define SLC1_GENERATION_AT 0x40
 
 /* Before the first change: CLEAN becomes DIRTY. On DIRTY nothing changes. */
 uint32_t slc1_begin(uint8_t *image, size_t length, SLC1_SIX_NUMBERS);
@@ -167,12 +203,13 @@ uint32_t slc1_invalidate(uint8_t *image, size_t length, SLC1_SIX_NUMBERS);
 uint32_t slc1_set_user_fields(
     uint8_t *image, size_t length, SLC1_SIX_NUMBERS, uint64_t user_flags, const uint8_t *user_data, size_t data_length);
 
-/* Commits a batch of 0 to 64 records, each laid out as a slot: meta 1 (u64) for put or 0 for delete, key, zeros to a
- * multiple of 8, revision (i64), index, zeros to a multiple of 8. A delete has revision and index zero. The last record
- * for a key decides. 0, or the first reason that holds: the header test's number; 4 or 7 by the role; 7 on CLEAN (begin
- * first); 1 where the generation is used up; 7 for a batch of another length, over 64 records or with a malformed record;
- * 1 where the full check fails; 5 where the new keys outnumber the slots left; 6 where the image is ordered and a new key
- * is below the key of its last slot. */
+#define SLC1_BATCH_LIMIT 64
+
+/* Commits a batch of 0 to 64 records, one after the other, each laid out as a slot (above). A delete has revision and
+ * index zero. The last record for a key decides. 0, or the first reason that holds: the header test's number; 4 or 7 by
+ * the role; 7 on CLEAN (begin first); 1 where the generation is used up; 7 for a batch of another length, over 64 records
+ * or with a malformed record; 1 where the full check fails; 5 where the new keys outnumber the slots left; 6 where the
+ * image is ordered and a new key is below the key of its last slot. */
 uint32_t slc1_commit(uint8_t *image, size_t length, SLC1_SIX_NUMBERS, const uint8_t *batch, size_t batch_length);
 
 /* Revision age. */

@@ -1,13 +1,14 @@
 #!/usr/bin/env bash
-# The host examples/bench.c end to end, over the library of this machine (tools/library): built plainly and with sanitizers,
-# run on good, damaged and half-written files, killed at every write, and read while it writes.
+# The host examples/bench.c with its store.c end to end, over the library of this machine (tools/library): built plainly
+# and with sanitizers, run on good, damaged and half-written files, killed at every write, and read while it writes.
 set -euo pipefail
 cd "$(dirname "$0")/.."
 out=target/native
 
 build() { gcc -std=c11 -Wall -Wextra -Werror -Iinclude "$@"; }
-build -O2 examples/bench.c $out/libslc1.a -o $out/bench
-build -O1 -g -fsanitize=address,undefined -fno-sanitize-recover=all examples/bench.c $out/libslc1.a -o $out/bench_sanitized
+host="examples/bench.c examples/store.c $out/libslc1.a"
+build -O2 $host -o $out/bench
+build -O1 -g -fsanitize=address,undefined -fno-sanitize-recover=all $host -o $out/bench_sanitized
 build -O2 -fno-builtin -fPIC -shared tests/kill_at.c -o $out/kill_at.so
 
 # In memory where there is a folder for that: what is tested is the order of writes and syncs, and not the disk.

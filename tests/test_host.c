@@ -50,6 +50,25 @@ static void sizes(void)
     same("index offset past the slots", slc1_index_offset(SLC1_OPTIONS(&small), 2), 0);
 }
 
+_Static_assert(SLC1_RECORD_SIZE(12, 20) == 56 && SLC1_RECORD_SIZE(1, 0) == 24, "a record, in a constant expression");
+
+/* The macros against the calls, for every size: 2 slots from 256 on, then 4 buckets of 16 bytes. */
+static void layouts(void)
+{
+    slc1_options o = {1, 0, 2, 1, 0, SLC1_NO_WRITER_KNOWN};
+
+    for (o.key_size = 1; o.key_size <= 64; o.key_size++) {
+        for (o.index_size = 0; o.index_size <= 256; o.index_size++) {
+            uint64_t slot = 256 + SLC1_RECORD_SIZE(o.key_size, o.index_size);
+
+            same("SLC1_KEY_AT", slot + SLC1_KEY_AT, slc1_key_offset(SLC1_OPTIONS(&o), 1));
+            same("SLC1_INDEX_AT", slot + SLC1_INDEX_AT(o.key_size), slc1_index_offset(SLC1_OPTIONS(&o), 1));
+            same("SLC1_RECORD_SIZE", slot + SLC1_RECORD_SIZE(o.key_size, o.index_size) + 4 * 16,
+                 slc1_total_size(SLC1_OPTIONS(&o)));
+        }
+    }
+}
+
 /* An image of 2 slots of 32 bytes at 256, and 4 buckets at 320. The keys "abg", which is deleted, and "abc" both have
  * bucket 3 as their home; "abc" went round the end, to bucket 0. */
 enum { TOTAL = 384 };
@@ -183,7 +202,8 @@ static void listings(void)
 static void written(void)
 {
     slc1_options own = {12, 20, 1, 1, 0, SLC1_LOCK_HELD};
-    uint8_t fresh[256 + 56 + 32 + 1], data[64], back[64], batch[56] = {[0] = 1, [8] = 's', [24] = 5};
+    uint8_t fresh[256 + 56 + 32 + 1], data[SLC1_USER_DATA_SIZE], back[SLC1_USER_DATA_SIZE];
+    uint8_t batch[SLC1_RECORD_SIZE(12, 20)] = {[0] = 1, [SLC1_KEY_AT] = 's', [SLC1_REVISION_AT(12)] = 5};
 
     memset(fresh, 0xa5, sizeof fresh);
     memset(data, 7, sizeof data);
@@ -209,9 +229,27 @@ static void written(void)
     same("checkpoint of another", slc1_checkpoint(fresh, 344, SLC1_OPTIONS(&own)), SLC1_BUSY);
     own.role = SLC1_LOCK_HELD;
     same("checkpoint", slc1_checkpoint(fresh, 344, SLC1_OPTIONS(&own)), SLC1_DONE);
-    same("the generation", fresh[0x40], 4);
+    same("the generation", fresh[SLC1_GENERATION_AT], 4);
     same("invalidate", slc1_invalidate(fresh, 344, SLC1_OPTIONS(&own)), SLC1_DONE);
     same("an image given up", slc1_open_check(fresh, 344, SLC1_OPTIONS(&own)), SLC1_INVALIDATED);
+}
+
+/* As many records as a batch may have, all for one key, and one more. */
+static void batches(void)
+{
+    const slc1_options own = {1, 0, 1, 1, 0, SLC1_LOCK_HELD};
+    enum { RECORD = SLC1_RECORD_SIZE(1, 0), LIMIT = SLC1_BATCH_LIMIT * RECORD };
+    uint8_t fresh[256 + RECORD + 32], batch[LIMIT + RECORD] = {0};
+
+    for (uint8_t i = 0; i <= SLC1_BATCH_LIMIT; i++) {
+        batch[i * RECORD] = 1;
+        batch[i * RECORD + SLC1_REVISION_AT(1)] = i;
+    }
+    same("create", slc1_create(fresh, sizeof fresh, SLC1_OPTIONS(&own)), SLC1_DONE);
+    same("begin", slc1_begin(fresh, sizeof fresh, SLC1_OPTIONS(&own)), SLC1_DONE);
+    same("SLC1_BATCH_LIMIT", slc1_commit(fresh, sizeof fresh, SLC1_OPTIONS(&own), batch, LIMIT), SLC1_DONE);
+    same("the last one", (uint64_t)slc1_lookup_revision(fresh, sizeof fresh, SLC1_OPTIONS(&own), batch + SLC1_KEY_AT, 1), 63);
+    same("one more", slc1_commit(fresh, sizeof fresh, SLC1_OPTIONS(&own), batch, LIMIT + RECORD), SLC1_INVALID_INPUT);
 }
 
 int main(void)
@@ -219,12 +257,14 @@ int main(void)
     digests();
     ages();
     sizes();
+    layouts();
     lay_out();
     opened();
     lookups();
     full_checks();
     listings();
     written();
+    batches();
     if (differences == 0)
         puts("every call of slc1.h answers as it should");
     return differences != 0;
