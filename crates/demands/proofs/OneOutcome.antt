@@ -1,6 +1,10 @@
 -- One outcome: what follows from the inputs alone coincides.
 -- Assumes nothing.
+use Prim.Native.Nat.{ℕ}
 use mathlib.Core.Path.{_≡_, sym, _∙_}
+use mathlib.Core.List.{List}
+use lib.ListN.{length}
+use Rattle.batch.proofs.Filled.{Filled, filled-alike}
 use Rattle.demands.specs.Owes.{Owes, One}
 use Rattle.demands.specs.Outcomes.{Outcomes}
 
@@ -20,6 +24,17 @@ module _
       → ((κ : K) (a : Arguments κ) (x : Result κ) (e : Exit κ) → after κ a x e → outcome κ x e ≡ definition κ a)
       → Owes theorem before after outcome definition
   owing met any follows = record { met = λ {M}. met M; any = any; follows = follows; one = follows-one follows }
+
+-- lists of one length that are filled alike coincide
+filled-one :
+    {K : Type 0} {Arguments Exit : K → Type 0} {after : (κ : K) → Arguments κ → List ℕ → Exit κ → Type 0} {m : ℕ}
+    {f : (κ : K) → Arguments κ → ℕ → ℕ} {n : (κ : K) → Arguments κ → ℕ}
+    → ((κ : K) (a : Arguments κ) (x : List ℕ) (e : Exit κ) → after κ a x e → (length x ≡ m) × Filled (f κ a) x (n κ a))
+    → One after (λ κ x e. x)
+filled-one {f} {n} fills κ a x y e g p q =
+    let u = fills κ a x e p in
+    let v = fills κ a y g q in
+    filled-alike (f κ a) (n κ a) x y (u .0 ∙ sym (v .0)) (u .1) (v .1)
 
 pub outcomes : Outcomes
 outcomes =
@@ -74,5 +89,19 @@ outcomes =
       append = follows-one (λ κ a x e p. p);
       rebuild = follows-one (λ κ a x e p. p);
       publish = follows-one (λ κ a x e p. p);
+      record-count = follows-one (λ κ a x e p. p);
+      «record» = follows-one (λ κ a x e p. p);
+      meta-in = follows-one (λ κ a x e p. p);
+      key-in = follows-one (λ κ a x e p. p);
+      batch-wrong = follows-one (λ κ a x e p. p);
+      meta-of = follows-one (λ κ a x e p. p);
+      key-of = follows-one (λ κ a x e p. p);
+      decides = follows-one (λ κ a x e p. p);
+      one-if = follows-one (λ κ a x e p. p);
+      find-news = filled-one (λ κ a x e p. (p .size, (p .each, p .rest)));
+      news-below = follows-one (λ κ a x e p. p);
+      mark-news = filled-one (λ κ a x e p. (p .size, (p .each, p .rest)));
+      marked-at = follows-one (λ κ a x e p. p);
+      apply = follows-one (λ κ a x e p. p);
       options = follows-one (λ κ a x e p. p);
     }

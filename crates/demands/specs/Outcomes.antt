@@ -53,6 +53,20 @@ use Rattle.slots.proofs.slots.index_slot.Reads as index-slot-reads
 use Rattle.slots.proofs.slots.append.Reads as append-reads
 use Rattle.slots.proofs.slots.rebuild.Reads as rebuild-reads
 use Rattle.slots.proofs.slots.publish.Reads as publish-reads
+use Rattle.batch.proofs.batch.record_count.Reads as record-count-reads
+use Rattle.batch.proofs.batch.record.Reads as record-reads
+use Rattle.batch.proofs.batch.meta_in.Reads as meta-in-reads
+use Rattle.batch.proofs.batch.key_in.Reads as key-in-reads
+use Rattle.batch.proofs.batch.batch_wrong.Reads as batch-wrong-reads
+use Rattle.batch.proofs.batch.meta_of.Reads as meta-of-reads
+use Rattle.batch.proofs.batch.key_of.Reads as key-of-reads
+use Rattle.batch.proofs.batch.decides.Reads as decides-reads
+use Rattle.batch.proofs.news.one_if.Reads as one-if-reads
+use Rattle.batch.proofs.news.find_news.Reads as find-news-reads
+use Rattle.batch.proofs.news.news_below.Reads as news-below-reads
+use Rattle.batch.proofs.news.mark_news.Reads as mark-news-reads
+use Rattle.batch.proofs.news.marked_at.Reads as marked-at-reads
+use Rattle.applying.proofs.apply.apply.Reads as apply-reads
 use Rattle.host.proofs.options.options.Reads as options-reads
 
 pub record Outcomes : Type 0 where
@@ -122,5 +136,22 @@ pub record Outcomes : Type 0 where
   pub append : One append-reads.Post (λ κ x e. now (arg1 e))
   pub rebuild : One rebuild-reads.Post (λ κ x e. now (arg1 e))
   pub publish : One publish-reads.Post (λ κ x e. now (arg1 e))
+  -- batch, batch
+  pub record-count : One record-count-reads.Post (λ κ x e. x)
+  pub «record» : One record-reads.Post (λ κ x e. now x)
+  pub meta-in : One meta-in-reads.Post (λ κ x e. x)
+  pub key-in : One key-in-reads.Post (λ κ x e. now x)
+  pub batch-wrong : One batch-wrong-reads.Post (λ κ x e. x)
+  pub meta-of : One meta-of-reads.Post (λ κ x e. x)
+  pub key-of : One key-of-reads.Post (λ κ x e. now x)
+  pub decides : One decides-reads.Post (λ κ x e. x)
+  -- batch, news
+  pub one-if : One one-if-reads.Post (λ κ x e. x)
+  pub find-news : One find-news-reads.Post (λ κ x e. x)
+  pub news-below : One news-below-reads.Post (λ κ x e. x)
+  pub mark-news : One mark-news-reads.Post (λ κ x e. x)
+  pub marked-at : One marked-at-reads.Post (λ κ x e. x)
+  -- applying, apply
+  pub apply : One apply-reads.Post (λ κ x e. now (arg1 e))
   -- host, options
   pub options : One options-reads.Post (λ κ x e. x)

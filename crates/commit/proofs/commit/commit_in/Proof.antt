@@ -4,7 +4,7 @@ use mathlib.Core.Path.{_≡_, ap, _∙_, sym}
 use native.Mathlib.Omega.{arith}
 use Rattle.writing.proofs.Answers.{says-refused, says-accepted}
 use Rattle.batch.specs.News.{newCount, newsBelow}
-use Rattle.batch.proofs.Marks.{told-count}
+use Rattle.batch.proofs.Marks.{told-count, told-marked}
 use Rattle.commit.proofs.Further.{sound-stops, room-decides, sound-small, room-enough}
 use borrow.Author.Needs.{needs}
 use Rattle.commit.proofs.commit.commit_in.Statement.{statement}
@@ -76,7 +76,7 @@ apply-requires c κs =
       b .pre .0,
       (
         b .pre .1,
-        (sound-small (a .s) (a .image .now) (a .batch .now) (c .before .before .before .before .before .before .before .before .before .before .before .before .before .before .sound-test .ensures) (c .before .before .before .before .before .before .before .before .before .before .before .before .before .if1 .left), (c .before .before .before .before .before .mark-news .ensures (a .image .now) told, (count, omega (arith, count, room)))),
+        (sound-small (a .s) (a .image .now) (a .batch .now) (c .before .before .before .before .before .before .before .before .before .before .before .before .before .before .sound-test .ensures) (c .before .before .before .before .before .before .before .before .before .before .before .before .before .if1 .left), (told-marked (a .s) (a .image .now) (a .batch .now) news told _ (c .before .before .before .before .before .mark-news .ensures), (count, omega (arith, count, room)))),
       ),
     )
 
