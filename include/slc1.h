@@ -198,8 +198,8 @@ uint32_t slc1_checkpoint(uint8_t *image, size_t length, SLC1_SIX_NUMBERS);
 /* Gives the image up for good: every call answers 3 from then on. 1 where the generation is used up. */
 uint32_t slc1_invalidate(uint8_t *image, size_t length, SLC1_SIX_NUMBERS);
 
-/* Replaces the caller's own flags and data. The data are exactly 64 bytes, else 7. 7 on CLEAN: begin first. 1 where the
- * generation is used up. */
+/* Replaces the caller's own flags and data. 7 where the data are not exactly 64 bytes, whatever the role. 7 on CLEAN: begin
+ * first. 1 where the generation is used up. */
 uint32_t slc1_set_user_fields(
     uint8_t *image, size_t length, SLC1_SIX_NUMBERS, uint64_t user_flags, const uint8_t *user_data, size_t data_length);
 

@@ -124,7 +124,20 @@ def writings(comparison):
             asked = comparison.images.asked(o)
             for name in ("begin", "checkpoint", "invalidate"):
                 comparison.same(name, image, asked)
-            comparison.same("set_user_fields", image, asked, comparison.random.getrandbits(64), comparison.random.randbytes(64))
+            length = comparison.random.choice((64, 64, 64, 0, 63, 65))
+            comparison.same("set_user_fields", image, asked, comparison.random.getrandbits(64), comparison.random.randbytes(length))
+
+
+def user_data(comparison):
+    """User data of every length around 64: on an image that passes, of length 0, with a foreign magic, and cut short."""
+    o = comparison.images.options()
+    image = comparison.images.history(o)
+    foreign = copy(image)
+    second.write_field(foreign, "magic", 0)
+    for lent in (image, bytearray(), foreign, image[:255]):
+        for role in range(4):
+            for length in (*range(66), 128):
+                comparison.same("set_user_fields", lent, o._replace(role=role), 7, comparison.random.randbytes(length))
 
 
 def malformed(comparison, o, batch):
@@ -170,7 +183,7 @@ def main():
     seed = int(sys.argv[1]) if len(sys.argv) > 1 else 1
     comparison = Comparison(seed)
     began = time.monotonic()
-    for part in (digests, ages, places, readings, creations, writings, histories, commits):
+    for part in (digests, ages, places, readings, creations, writings, user_data, histories, commits):
         part(comparison)
     print(f"{comparison.calls} calls agree with the second program (seed {seed}, {time.monotonic() - began:.0f} s)")
 

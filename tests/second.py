@@ -422,6 +422,9 @@ def invalidate(image, o):
 
 
 def set_user_fields(image, o, user_flags, user_data):
+    # A host may lend other than 64 bytes: "Every call but create and revision age makes this test first."
+    if len(user_data) != 64:
+        return header_test(image, o) or 7
     number = first_of(publishing_tests(image, o))
     if number == 0:
         # "Set user fields replaces user_flags and user_data."

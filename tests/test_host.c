@@ -219,6 +219,10 @@ static void written(void)
     batch[8] = 'x';
     same("no slot left", slc1_commit(fresh, 344, SLC1_OPTIONS(&own), batch, 56), SLC1_FULL);
     same("user data of 63 bytes", slc1_set_user_fields(fresh, 344, SLC1_OPTIONS(&own), 9, data, 63), SLC1_INVALID_INPUT);
+    same("and no image", slc1_set_user_fields(fresh, 0, SLC1_OPTIONS(&own), 9, data, 63), SLC1_CREATE_IT);
+    fresh[0] = 'X';
+    same("and a foreign image", slc1_set_user_fields(fresh, 344, SLC1_OPTIONS(&own), 9, data, 63), SLC1_INCOMPATIBLE);
+    fresh[0] = 'S';
     same("user fields", slc1_set_user_fields(fresh, 344, SLC1_OPTIONS(&own), 9, data, 64), SLC1_DONE);
     same("the flags", slc1_user_flags(fresh, 344, SLC1_OPTIONS(&own)), 9);
     same("the data", slc1_user_data(fresh, 344, SLC1_OPTIONS(&own), back, 64), SLC1_DONE);

@@ -552,7 +552,8 @@ def faulty(*faults):
 
 class Refusals(Case):
     def test_each_header_fault_for_each_call(self):
-        for fault, (call, arguments) in itertools.product(FAULTS, WRITING_CALLS + READING_CALLS):
+        calls = WRITING_CALLS + READING_CALLS + [(set_user_fields, (1, bytes(63)))]
+        for fault, (call, arguments) in itertools.product(FAULTS, calls):
             with self.subTest(fault=fault, call=call.__name__):
                 self.assert_refused(fault.number, call, *faulty(fault), *arguments)
 
@@ -628,6 +629,10 @@ class Refusals(Case):
             self.assert_refused(7, match, image, BASE, offset, bits, pattern, 0, 9, [5])
         for offset, bits, pattern in ((0, 24, b"abc"), (2, 8, b"c"), (1, 9, b"b\x7f")):
             self.assertEqual(match(image, BASE, offset, bits, pattern, 0, 9, [5]), Listed(0, 1, 1))
+
+    def test_user_data_of_another_length(self):
+        for role, length in itertools.product(range(3), (0, 63, 65)):
+            self.assert_refused(7, set_user_fields, fresh(BASE), BASE._replace(role=role), 1, bytes(length))
 
 
 class FullCheckSentences(Case):

@@ -103,5 +103,4 @@ outcomes =
       mark-news = filled-one (λ κ a x e p. (p .size, (p .each, p .rest)));
       marked-at = follows-one (λ κ a x e p. p);
       apply = follows-one (λ κ a x e p. p);
-      options = follows-one (λ κ a x e p. p);
     }

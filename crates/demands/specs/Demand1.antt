@@ -52,11 +52,13 @@ pub record Demand1 : Type 2 where
   -- "and refuses bad input by the numbers in document 01"
   pub create-judges : (o : Options) (buffer : List ℕ) → Numbered (createOf o buffer .answer)
   pub open-judges : Judges (λ o image. openOf o image .answer)
+  pub user-data-judges : (out : List ℕ) → Judges (λ o image. userDataOf o image out .answer)
   pub begin-judges : Judges (λ o image. beginOf o image .answer)
   pub commit-judges : (batch : List ℕ) → Judges (λ o image. commitOf o image batch .answer)
   pub checkpoint-judges : Judges (λ o image. checkpointOf o image .answer)
   pub invalidate-judges : Judges (λ o image. invalidateOf o image .answer)
   pub user-judges : (fields : UserFields) → Judges (λ o image. setUserFieldsOf o image fields .answer)
+  pub user-slice-judges : (flags : ℕ) (bytes : List ℕ) → Judges (λ o image. setUserFieldsFrom o image flags bytes .answer)
   pub lookup-judges : (key : List ℕ) → Judges (λ o image. lookupOf o image key .answer)
   pub scan-judges : (skip limit : ℕ) (numbers : List ℕ) → Judges (λ o image. scanOf o image skip limit numbers .listed .answer)
   pub match-judges : (offset bits : ℕ) (pattern : List ℕ) (skip limit : ℕ) (numbers : List ℕ)

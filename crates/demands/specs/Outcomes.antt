@@ -67,7 +67,6 @@ use Rattle.batch.proofs.news.news_below.Reads as news-below-reads
 use Rattle.batch.proofs.news.mark_news.Reads as mark-news-reads
 use Rattle.batch.proofs.news.marked_at.Reads as marked-at-reads
 use Rattle.applying.proofs.apply.apply.Reads as apply-reads
-use Rattle.host.proofs.options.options.Reads as options-reads
 
 pub record Outcomes : Type 0 where
   -- numbers, parts
@@ -153,5 +152,3 @@ pub record Outcomes : Type 0 where
   pub marked-at : One marked-at-reads.Post (λ κ x e. x)
   -- applying, apply
   pub apply : One apply-reads.Post (λ κ x e. now (arg1 e))
-  -- host, options
-  pub options : One options-reads.Post (λ κ x e. x)

@@ -1,8 +1,8 @@
--- Sizes and places, by the number that the first test gave for options equal to `o`.
+-- Sizes and places, by the number that the first test gave for the options.
 -- Assumes nothing.
 use Prim.Native.Nat.{ℕ, _+_, _*_, _^_, _≤_, _<_}
 use mathlib.Core.Bool.{true}
-use mathlib.Core.Path.{_≡_, refl, sym, ap, _∙_}
+use mathlib.Core.Path.{_≡_, refl, sym, _∙_}
 use native.Mathlib.Nat.{mul-le-mul}
 use native.Mathlib.Omega.{arith}
 use borrow.Author.Tests.{lt-ltb, le-ltb}
@@ -16,10 +16,7 @@ use Rattle.header.proofs.SizeLaws.{slot-size-limit, capacity-limit}
 use Rattle.host.specs.Places.{totalOf, placeIn}
 use Rattle.host.proofs.Failed.{after-failed}
 
-module _ (o given : Options) (known : given ≡ o) (n : ℕ) (tested : n ≡ firstOf (test1 given)) where
-  e : n ≡ firstOf (test1 o)
-  e = tested ∙ ap (λ (p : Options). firstOf (test1 p)) known
-
+module _ (o : Options) (n : ℕ) (e : n ≡ firstOf (test1 o)) where
   pub total-refused : (n ≡ 0 → ⊥) → 0 ≡ totalOf o
   unfolding totalOf
   total-refused h = rw (sym e, after-failed (totalSize o) (λ n. 0) n h) refl
@@ -32,15 +29,15 @@ module _ (o given : Options) (known : given ≡ o) (n : ℕ) (tested : n ≡ fir
     passed : firstOf (test1 o) ≡ 0
     passed = sym e ∙ z
 
+    pub sizes-allowed : sizesAllowed o ≡ true
+    sizes-allowed = allowed-passed o passed
+
     pub sizes : Allowed o
-    sizes = allowed o (allowed-passed o passed)
+    sizes = allowed o sizes-allowed
 
-    pub given-allowed : sizesAllowed given ≡ true
-    given-allowed = rw known (allowed-passed o passed)
-
-    pub total-passed : {r : ℕ} → r ≡ totalSize given → r ≡ totalOf o
+    pub total-passed : {r : ℕ} → r ≡ totalSize o → r ≡ totalOf o
     unfolding totalOf
-    total-passed h = rw (h, passed, known) refl
+    total-passed h = rw (h, passed) refl
 
     module _ (slot : ℕ) where
       pub place-beyond : (into : ℕ) → o .«slot_capacity» ≤ slot → 0 ≡ placeIn o slot into

@@ -1,7 +1,7 @@
 -- The user data written to a lent buffer, by what the open check returned, and taken from a lent slice.
 -- Assumes nothing.
 use Prim.Native.Nat.{ℕ, zero, suc, _+_, _≤_, _<_}
-use mathlib.Core.Path.{_≡_, refl, sym, ap, _∙_}
+use mathlib.Core.Path.{_≡_, refl, sym, _∙_}
 use mathlib.Core.List.{List, append-nil}
 use native.Mathlib.Omega.{arith}
 use borrow.Author.Tests.{lt-ltb, le-ltb, eq-eqb, ne-eqb}
@@ -10,7 +10,7 @@ use lib.ListN.{length, drop-of-length-le}
 use Rattle.numbers.specs.Bytes.{put}
 use Rattle.header.specs.declared.open.Opened.{Opened}
 use Rattle.header.specs.declared.options.Options.{Options}
-use Rattle.header.specs.Answer.{done, too-short}
+use Rattle.header.specs.Answer.{done, invalid-input, too-short}
 use Rattle.header.specs.Fields as F
 use Rattle.header.specs.HeaderTest.{headerTest, afterTest}
 use Rattle.header.specs.Open.{openOf, userFields}
@@ -25,10 +25,7 @@ answer-of : (n : ℕ) (go : Opened) (refuse : ℕ → Opened) → go .answer ≡
 answer-of zero go refuse z h = z
 answer-of (suc n) go refuse z h = h (suc n)
 
-module _ (o given : Options) (known : given ≡ o) (image out : List ℕ) (r : Opened) (said : r ≡ openOf given image) where
-  returned : r ≡ openOf o image
-  returned = said ∙ ap (λ (p : Options). openOf p image) known
-
+module _ (o : Options) (image out : List ℕ) (r : Opened) (returned : r ≡ openOf o image) where
   number : r .answer ≡ headerTest o image
   unfolding openOf
   number = rw returned (answer-of (headerTest o image) _ _ refl (λ m. refl))
@@ -60,9 +57,10 @@ module _ (o given : Options) (known : given ≡ o) (image out : List ℕ) (r : O
 
 module _ (o : Options) (image : List ℕ) (flags : ℕ) (bytes : List ℕ) where
   -- user data of another length
-  pub from-wrong : (length bytes ≡ 64 → ⊥) → (7 ≡ setUserFieldsFrom o image flags bytes .answer) × (image ≡ setUserFieldsFrom o image flags bytes .image)
+  pub from-wrong : (length bytes ≡ 64 → ⊥) → {r : ℕ} → r ≡ afterTest (headerTest o image) invalid-input (λ n. n)
+      → (r ≡ setUserFieldsFrom o image flags bytes .answer) × (image ≡ setUserFieldsFrom o image flags bytes .image)
   unfolding setUserFieldsFrom
-  from-wrong ne = rw (ne-eqb (length bytes) 64 ne) (refl, refl)
+  from-wrong ne e = rw (ne-eqb (length bytes) 64 ne) (e, refl)
 
   -- 64 bytes put over 64 others
   all-over : (was : List ℕ) → length bytes ≡ 64 → length was ≡ 64 → put was 0 bytes ≡ bytes
@@ -72,11 +70,11 @@ module _ (o : Options) (image : List ℕ) (flags : ℕ) (bytes : List ℕ) where
       rw (drop-of-length-le was past) (append-nil bytes)
 
   -- and user data of 64 bytes, copied first
-  pub from-right : (given : Options) (was bytes′ : List ℕ) {r : ℕ} {image′ : List ℕ}
-      → (r ≡ setUserFieldsOf given image (record { «user_flags» = flags; «user_data» = bytes′ }) .answer) × (image′ ≡ setUserFieldsOf given image (record { «user_flags» = flags; «user_data» = bytes′ }) .image)
-      → given ≡ o → bytes′ ≡ put was 0 bytes → length bytes ≡ 64 → length was ≡ 64
+  pub from-right : (was bytes′ : List ℕ) {r : ℕ} {image′ : List ℕ}
+      → (r ≡ setUserFieldsOf o image (record { «user_flags» = flags; «user_data» = bytes′ }) .answer) × (image′ ≡ setUserFieldsOf o image (record { «user_flags» = flags; «user_data» = bytes′ }) .image)
+      → bytes′ ≡ put was 0 bytes → length bytes ≡ 64 → length was ≡ 64
       → (r ≡ setUserFieldsFrom o image flags bytes .answer) × (image′ ≡ setUserFieldsFrom o image flags bytes .image)
   unfolding setUserFieldsFrom
-  from-right given was bytes′ told known copied e e′ =
+  from-right was bytes′ told copied e e′ =
       let d : bytes′ ≡ bytes = copied ∙ all-over was e e′ in
-      rw (eq-eqb (length bytes) 64 e, ← known, ← d) told
+      rw (eq-eqb (length bytes) 64 e, ← d) told

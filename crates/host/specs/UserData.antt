@@ -28,8 +28,8 @@ userDataOf o image out =
     (cond (ltb (length out) 64) (filled too-short out) (filled done (put out 0 (userFields image .«user_data»))))
     (λ n. filled n out)
 
--- user fields taken from a lent slice: exactly 64 bytes, else 7
+-- user fields taken from a lent slice: exactly 64 bytes; any other length is 7, after the header test
 unfoldable pub setUserFieldsFrom : Options → List ℕ → ℕ → List ℕ → Written
 setUserFieldsFrom o image flags bytes =
     cond (eqb (length bytes) 64) (setUserFieldsOf o image (record { «user_flags» = flags; «user_data» = bytes }))
-    (record { answer = invalid-input; image = image })
+    (record { answer = afterTest (headerTest o image) invalid-input (λ n. n); image = image })

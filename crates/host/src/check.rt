@@ -2,7 +2,7 @@
 ghost use mathlib.Core.Path.{_≡_};
 ghost use Rattle.host.specs.Options.{optionsOf};
 ghost use Rattle.image.specs.Check.{checkOf};
-use crate::options::options;
+use header::options::Options;
 use image::check::full_check;
 
 // 0 where every sentence of the full check holds, else the number that says why not.
@@ -20,14 +20,14 @@ pub extern "C" fn slc1_full_check(
 {
     let checked = full_check(
         image,
-        options(
+        Options {
             key_size,
             index_size,
             slot_capacity,
             user_version,
             ordered,
             role,
-        ),
+        },
     );
     checked.answer
 }
@@ -47,14 +47,14 @@ pub extern "C" fn slc1_full_check_live(
 {
     let checked = full_check(
         image,
-        options(
+        Options {
             key_size,
             index_size,
             slot_capacity,
             user_version,
             ordered,
             role,
-        ),
+        },
     );
     checked.live
 }
@@ -74,14 +74,14 @@ pub extern "C" fn slc1_full_check_tombstones(
 {
     let checked = full_check(
         image,
-        options(
+        Options {
             key_size,
             index_size,
             slot_capacity,
             user_version,
             ordered,
             role,
-        ),
+        },
     );
     checked.tombstones
 }
@@ -101,14 +101,14 @@ pub extern "C" fn slc1_full_check_probes(
 {
     let checked = full_check(
         image,
-        options(
+        Options {
             key_size,
             index_size,
             slot_capacity,
             user_version,
             ordered,
             role,
-        ),
+        },
     );
     checked.probes
 }

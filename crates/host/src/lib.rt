@@ -5,6 +5,5 @@ pub mod digest;
 pub mod list;
 pub mod lookup;
 pub mod open;
-pub mod options;
 pub mod sizes;
 pub mod write;

@@ -3,7 +3,7 @@ ghost use mathlib.Core.Path.{_≡_};
 ghost use Rattle.host.specs.Options.{optionsOf};
 ghost use Rattle.listing.specs.Match.{matchOf};
 ghost use Rattle.listing.specs.Scan.{scanOf};
-use crate::options::options;
+use header::options::Options;
 use listing::matching::match_bits;
 use listing::scan::scan;
 
@@ -25,14 +25,14 @@ pub extern "C" fn slc1_scan(
 {
     let listed = scan(
         image,
-        options(
+        Options {
             key_size,
             index_size,
             slot_capacity,
             user_version,
             ordered,
             role,
-        ),
+        },
         skip,
         limit,
         numbers,
@@ -58,14 +58,14 @@ pub extern "C" fn slc1_scan_total(
 {
     let listed = scan(
         image,
-        options(
+        Options {
             key_size,
             index_size,
             slot_capacity,
             user_version,
             ordered,
             role,
-        ),
+        },
         skip,
         limit,
         numbers,
@@ -91,14 +91,14 @@ pub extern "C" fn slc1_scan_written(
 {
     let listed = scan(
         image,
-        options(
+        Options {
             key_size,
             index_size,
             slot_capacity,
             user_version,
             ordered,
             role,
-        ),
+        },
         skip,
         limit,
         numbers,
@@ -127,14 +127,14 @@ pub extern "C" fn slc1_match(
 {
     let matched = match_bits(
         image,
-        options(
+        Options {
             key_size,
             index_size,
             slot_capacity,
             user_version,
             ordered,
             role,
-        ),
+        },
         offset,
         bits,
         pattern,
@@ -166,14 +166,14 @@ pub extern "C" fn slc1_match_total(
 {
     let matched = match_bits(
         image,
-        options(
+        Options {
             key_size,
             index_size,
             slot_capacity,
             user_version,
             ordered,
             role,
-        ),
+        },
         offset,
         bits,
         pattern,
@@ -205,14 +205,14 @@ pub extern "C" fn slc1_match_written(
 {
     let matched = match_bits(
         image,
-        options(
+        Options {
             key_size,
             index_size,
             slot_capacity,
             user_version,
             ordered,
             role,
-        ),
+        },
         offset,
         bits,
         pattern,

@@ -2,7 +2,7 @@
 ghost use mathlib.Core.Path.{_≡_};
 ghost use Rattle.host.specs.Options.{optionsOf};
 ghost use Rattle.image.specs.Lookup.{lookupOf};
-use crate::options::options;
+use header::options::Options;
 use image::lookup::look_up;
 
 // 0 found, 9 not present, or the number that refuses the call.
@@ -21,14 +21,14 @@ pub extern "C" fn slc1_lookup(
 {
     let found = look_up(
         image,
-        options(
+        Options {
             key_size,
             index_size,
             slot_capacity,
             user_version,
             ordered,
             role,
-        ),
+        },
         key,
     );
     found.answer
@@ -50,14 +50,14 @@ pub extern "C" fn slc1_lookup_slot(
 {
     let found = look_up(
         image,
-        options(
+        Options {
             key_size,
             index_size,
             slot_capacity,
             user_version,
             ordered,
             role,
-        ),
+        },
         key,
     );
     found.slot
@@ -77,19 +77,19 @@ pub extern "C" fn slc1_lookup_revision(
 ) -> i64
     ensures { λ r. ⌜ r ≡ lookupOf (optionsOf «key_size» «index_size» «slot_capacity» «user_version» ordered role) (now (image .entry)) (now (key .entry)) .revision ⌝ }
 {
-    let found = look_up(
+    let entry = look_up(
         image,
-        options(
+        Options {
             key_size,
             index_size,
             slot_capacity,
             user_version,
             ordered,
             role,
-        ),
+        },
         key,
     );
-    found.revision
+    entry.revision
 }
 
 // The number of buckets examined for a key that is found or not present, else 0.
@@ -108,14 +108,14 @@ pub extern "C" fn slc1_lookup_buckets(
 {
     let found = look_up(
         image,
-        options(
+        Options {
             key_size,
             index_size,
             slot_capacity,
             user_version,
             ordered,
             role,
-        ),
+        },
         key,
     );
     found.buckets

@@ -3,10 +3,10 @@ ghost use mathlib.Core.Path.{_≡_};
 ghost use Rattle.host.specs.Options.{optionsOf};
 ghost use Rattle.header.specs.Open.{openOf};
 ghost use Rattle.host.specs.UserData.{userDataOf};
-use crate::options::options;
 use header::answer::DONE;
 use header::answer::TOO_SHORT;
 use header::open::open_check;
+use header::options::Options;
 use numbers::parts::copy_to;
 
 // The header test: 0, or the number that refuses the image.
@@ -24,14 +24,14 @@ pub extern "C" fn slc1_open_check(
 {
     let opened = open_check(
         image,
-        options(
+        Options {
             key_size,
             index_size,
             slot_capacity,
             user_version,
             ordered,
             role,
-        ),
+        },
     );
     opened.answer
 }
@@ -51,14 +51,14 @@ pub extern "C" fn slc1_user_flags(
 {
     let opened = open_check(
         image,
-        options(
+        Options {
             key_size,
             index_size,
             slot_capacity,
             user_version,
             ordered,
             role,
-        ),
+        },
     );
     let fields = opened.fields;
     fields.user_flags
@@ -81,14 +81,14 @@ pub extern "C" fn slc1_user_data(
 {
     let opened = open_check(
         image,
-        options(
+        Options {
             key_size,
             index_size,
             slot_capacity,
             user_version,
             ordered,
             role,
-        ),
+        },
     );
     if opened.answer != DONE {
         return opened.answer;

@@ -2,8 +2,8 @@
 ghost use mathlib.Core.Path.{_≡_};
 ghost use Rattle.host.specs.Options.{optionsOf};
 ghost use Rattle.host.specs.Places.{totalOf, keyPlace, indexPlace};
-use crate::options::options;
 use header::answer::DONE;
+use header::options::Options;
 use header::options::options_test;
 use header::sizes::align8;
 use header::sizes::slot_size;
@@ -21,14 +21,14 @@ pub extern "C" fn slc1_total_size(
 ) -> u64
     ensures { λ r. ⌜ r ≡ totalOf (optionsOf «key_size» «index_size» «slot_capacity» «user_version» ordered role) ⌝ }
 {
-    let o = options(
+    let o = Options {
         key_size,
         index_size,
         slot_capacity,
         user_version,
         ordered,
         role,
-    );
+    };
     if options_test(o) != DONE {
         return 0;
     }
@@ -48,16 +48,15 @@ pub extern "C" fn slc1_key_offset(
 ) -> u64
     ensures { λ r. ⌜ r ≡ keyPlace (optionsOf «key_size» «index_size» «slot_capacity» «user_version» ordered role) slot ⌝ }
 {
-    if options_test(options(
+    let o = Options {
         key_size,
         index_size,
         slot_capacity,
         user_version,
         ordered,
         role,
-    ))
-        != DONE
-    {
+    };
+    if options_test(o) != DONE {
         return 0;
     }
     if slot_capacity <= slot {
@@ -79,16 +78,15 @@ pub extern "C" fn slc1_index_offset(
 ) -> u64
     ensures { λ r. ⌜ r ≡ indexPlace (optionsOf «key_size» «index_size» «slot_capacity» «user_version» ordered role) slot ⌝ }
 {
-    if options_test(options(
+    let o = Options {
         key_size,
         index_size,
         slot_capacity,
         user_version,
         ordered,
         role,
-    ))
-        != DONE
-    {
+    };
+    if options_test(o) != DONE {
         return 0;
     }
     if slot_capacity <= slot {

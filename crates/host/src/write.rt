@@ -1,14 +1,18 @@
 // Create and the writing calls. Any number but 0 leaves every lent byte alone.
 ghost use mathlib.Core.Path.{_≡_};
+ghost use Rattle.header.specs.Answer.{invalid-input};
+ghost use Rattle.header.specs.HeaderTest.{headerTest, afterTest};
 ghost use Rattle.commit.specs.Commit.{commitOf};
 ghost use Rattle.writing.specs.Create.{createOf};
 ghost use Rattle.writing.specs.State.{beginOf, checkpointOf, invalidateOf};
 ghost use Rattle.host.specs.Options.{optionsOf};
 ghost use Rattle.host.specs.UserData.{setUserFieldsFrom};
-use crate::options::options;
 use commit::commit::commit_batch;
 use header::answer::INVALID_INPUT;
+use header::judge::judge;
 use header::open::UserFields;
+use header::options::Options;
+use header::shape::Judged;
 use numbers::parts::copy_to;
 use writing::create::create;
 use writing::state::begin;
@@ -31,14 +35,14 @@ pub extern "C" fn slc1_create(
 {
     create(
         buffer,
-        options(
+        Options {
             key_size,
             index_size,
             slot_capacity,
             user_version,
             ordered,
             role,
-        ),
+        },
     )
 }
 
@@ -57,14 +61,14 @@ pub extern "C" fn slc1_begin(
 {
     begin(
         image,
-        options(
+        Options {
             key_size,
             index_size,
             slot_capacity,
             user_version,
             ordered,
             role,
-        ),
+        },
     )
 }
 
@@ -83,14 +87,14 @@ pub extern "C" fn slc1_checkpoint(
 {
     checkpoint(
         image,
-        options(
+        Options {
             key_size,
             index_size,
             slot_capacity,
             user_version,
             ordered,
             role,
-        ),
+        },
     )
 }
 
@@ -109,18 +113,28 @@ pub extern "C" fn slc1_invalidate(
 {
     invalidate(
         image,
-        options(
+        Options {
             key_size,
             index_size,
             slot_capacity,
             user_version,
             ordered,
             role,
-        ),
+        },
     )
 }
 
-// Replaces user_flags and user_data. The data are exactly 64 bytes: 7 otherwise.
+// What user data of another length are answered: the header test's number, and where the image passes 7.
+fn other_length(image: &[u8], o: Options) -> u32
+    ensures { λ r. ⌜ r ≡ afterTest (headerTest o (now (image .entry))) invalid-input (λ n. n) ⌝ }
+{
+    match judge(image, o) {
+        Judged::Fit(_) => INVALID_INPUT,
+        Judged::Refused(number) => number,
+    }
+}
+
+// Replaces user_flags and user_data. The data are exactly 64 bytes: 7 otherwise, after the header test.
 #[no_mangle]
 pub extern "C" fn slc1_set_user_fields(
     image: &mut [u8],
@@ -135,21 +149,22 @@ pub extern "C" fn slc1_set_user_fields(
 ) -> u32
     ensures { λ r. ⌜ (r ≡ setUserFieldsFrom (optionsOf «key_size» «index_size» «slot_capacity» «user_version» ordered role) (now (image .entry)) «user_flags» (now («user_data» .entry)) .answer) × (now (image .exit) ≡ setUserFieldsFrom (optionsOf «key_size» «index_size» «slot_capacity» «user_version» ordered role) (now (image .entry)) «user_flags» (now («user_data» .entry)) .image) ⌝ }
 {
+    let o = Options {
+        key_size,
+        index_size,
+        slot_capacity,
+        user_version,
+        ordered,
+        role,
+    };
     if user_data.len() != 64 {
-        return INVALID_INPUT;
+        return other_length(image, o);
     }
     let mut bytes = [0u8; 64];
     copy_to(&mut bytes, 0, user_data);
     set_user_fields(
         image,
-        options(
-            key_size,
-            index_size,
-            slot_capacity,
-            user_version,
-            ordered,
-            role,
-        ),
+        o,
         UserFields {
             user_flags,
             user_data: bytes,
@@ -173,14 +188,14 @@ pub extern "C" fn slc1_commit(
 {
     commit_batch(
         image,
-        options(
+        Options {
             key_size,
             index_size,
             slot_capacity,
             user_version,
             ordered,
             role,
-        ),
+        },
         batch,
     )
 }

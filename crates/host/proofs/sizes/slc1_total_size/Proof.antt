@@ -1,29 +1,26 @@
 -- `host::sizes::slc1_total_size` meets its contract.
 -- Assumes nothing.
-use Rattle.host.proofs.PlaceLaws.{total-refused, total-passed, given-allowed}
+use Rattle.host.proofs.PlaceLaws.{total-refused, total-passed, sizes-allowed}
 use borrow.Author.Needs.{needs}
 use Rattle.host.proofs.sizes.slc1_total_size.Statement.{statement}
 use Rattle.host.proofs.sizes.slc1_total_size.Tie as tie
-
-options-requires : tie.Need-options-requires
-options-requires c κs = search needs
 
 options-test-requires : tie.Need-options-test-requires
 options-test-requires c κs = search needs
 
 returns : tie.Need-returns
 returns c =
-    total-refused _ _ (c .before .before .options .ensures) _ (c .before .options-test .ensures) (c .if1 .taken)
+    total-refused _ _ (c .before .options-test .ensures) (c .if1 .taken)
 
 total-size-requires : tie.Need-total-size-requires
 total-size-requires c κs =
-    given-allowed _ _ (c .before .before .options .ensures) _ (c .before .options-test .ensures) (c .if1 .left)
+    sizes-allowed _ _ (c .before .options-test .ensures) (c .if1 .left)
 
 returns-2 : tie.Need-returns-2
 returns-2 c =
-    total-passed _ _ (c .before .before .before .options .ensures) _ (c .before .before .options-test .ensures) (c .before .if1 .left) (c .total-size .ensures)
+    total-passed _ _ (c .before .before .options-test .ensures) (c .before .if1 .left) (c .total-size .ensures)
 
 pub slc1-total-size-spec : {M : Type 1} → statement M
 slc1-total-size-spec =
     tie.close
-    (tie.spec options-requires options-test-requires returns total-size-requires returns-2)
+    (tie.spec options-test-requires returns total-size-requires returns-2)
