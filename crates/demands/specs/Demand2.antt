@@ -83,11 +83,12 @@ pub record Demand2 : Type 0 where
   pub only-then : (o : Options) (image batch : List ℕ)
       → (commitOf o image batch .answer ≡ done) ↔ NoneHolds (commitTests o image batch)
   -- "The writer's full check passes on the fresh image, after begin and after each accepted commit": on every image of a
-  -- history; and the writer can begin and checkpoint there
+  -- history
   pub checks : (o : Options) (image : List ℕ) (m : Map) → History o image m → checkOf (writer o) image .answer ≡ done
   -- it passes just the images for which the header test gives 0 and every sentence of its paragraph holds
   pub check-passes : (o : Options) (image : List ℕ)
       → (checkOf o image .answer ≡ done) ↔ ((headerTest o image ≡ done) × (passes (shapeOf image) image ≡ true))
+  -- the writer can begin and checkpoint on every image of a history
   pub begins : (o : Options) (image : List ℕ) (m : Map) → History o image m → beginOf (writer o) image .answer ≡ done
   pub checkpoints : (o : Options) (image : List ℕ) (m : Map) → History o image m
       → (checkpointOf (writer o) image .answer ≡ done) × (value (checkpointOf (writer o) image .image) F.state ≡ CLEAN)
