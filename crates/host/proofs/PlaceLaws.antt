@@ -1,6 +1,6 @@
 -- Sizes and places, by the number that the first test gave for the options.
 -- Assumes nothing.
-use Prim.Native.Nat.{ℕ, _+_, _*_, _^_, _≤_, _<_}
+use Prim.Native.Nat.{ℕ, _*_, _^_, _≤_, _<_}
 use mathlib.Core.Bool.{true}
 use mathlib.Core.Path.{_≡_, refl, sym, _∙_}
 use native.Mathlib.Nat.{mul-le-mul}
@@ -21,9 +21,9 @@ module _ (o : Options) (n : ℕ) (e : n ≡ firstOf (test1 o)) where
   unfolding totalOf
   total-refused h = rw (sym e, after-failed (totalSize o) (λ n. 0) n h) refl
 
-  pub place-refused : (slot into : ℕ) → (n ≡ 0 → ⊥) → 0 ≡ placeIn o slot into
+  pub place-refused : (slot place : ℕ) → (n ≡ 0 → ⊥) → 0 ≡ placeIn o slot place
   unfolding placeIn
-  place-refused slot into h = rw (sym e, after-failed {A = ℕ} _ (λ n. 0) n h) refl
+  place-refused slot place h = rw (sym e, after-failed {A = ℕ} _ (λ n. 0) n h) refl
 
   module _ (z : n ≡ 0) where
     passed : firstOf (test1 o) ≡ 0
@@ -40,19 +40,19 @@ module _ (o : Options) (n : ℕ) (e : n ≡ firstOf (test1 o)) where
     total-passed h = rw (h, passed) refl
 
     module _ (slot : ℕ) where
-      pub place-beyond : (into : ℕ) → o .«slot_capacity» ≤ slot → 0 ≡ placeIn o slot into
+      pub place-beyond : (place : ℕ) → o .«slot_capacity» ≤ slot → 0 ≡ placeIn o slot place
       unfolding placeIn
-      place-beyond into h = rw (passed, le-ltb slot (o .«slot_capacity») h) refl
+      place-beyond place h = rw (passed, le-ltb slot (o .«slot_capacity») h) refl
 
-      module _ (inside : slot < o .«slot_capacity») {size : ℕ} (is : size ≡ slotSize (o .«key_size») (o .«index_size»)) where
+      module _ (inside : slot < o .«slot_capacity») where
+        pub place-inside : {r place : ℕ} → r ≡ place → r ≡ placeIn o slot place
+        unfolding placeIn
+        place-inside h = rw (passed, lt-ltb slot (o .«slot_capacity») inside) h
+
         -- where a slot begins is far below 64 bits
-        pub place-fits : slot * size ≤ 2 ^ 48
-        place-fits =
+        pub place-fits : {size : ℕ} → size ≡ slotSize (o .«key_size») (o .«index_size») → slot * size ≤ 2 ^ 48
+        place-fits {size} is =
             let below : slot ≤ 2 ^ 32 = omega (arith, sizes .capacity-high, capacity-limit) in
             let limit : size ≤ 2 ^ 16 = rw is (slot-size-limit (o .«key_size») (o .«index_size») (sizes .key-high) (sizes .index-high)) in
             let product : slot * size ≤ 2 ^ 32 * 2 ^ 16 = mul-le-mul below limit in
             omega arith
-
-        pub place-inside : (into : ℕ) → 256 + slot * size + into ≡ placeIn o slot into
-        unfolding placeIn
-        place-inside into = rw (passed, lt-ltb slot (o .«slot_capacity») inside, is) refl

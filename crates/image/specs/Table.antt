@@ -10,20 +10,20 @@ use Rattle.numbers.specs.Signed.{signed}
 use Rattle.digests.specs.Fnv.{fnv1a64}
 use Rattle.probing.specs.Table.{Bucket, EMPTY, TOMBSTONE, FULL, Table}
 use Rattle.header.specs.declared.shape.Shape.{Shape}
-use Rattle.header.specs.Sizes.{align8}
+use Rattle.image.specs.Places.{slotStart, keyStart, revisionStart, indexStart}
 
--- where slot n begins, and its parts: "meta u64, key, zeros to a multiple of 8, revision i64, index"
+-- where slot n begins, and its parts
 unfoldable pub slotAt : Shape → ℕ → ℕ
-slotAt s n = 256 + n * s .«slot_size»
+slotAt s n = slotStart (s .«slot_size») n
 
 unfoldable pub keyAt : Shape → ℕ → ℕ
-keyAt s n = slotAt s n + 8
+keyAt s n = keyStart (slotAt s n)
 
 unfoldable pub revisionAt : Shape → ℕ → ℕ
-revisionAt s n = slotAt s n + 8 + align8 (s .«key_size»)
+revisionAt s n = revisionStart (s .«key_size») (slotAt s n)
 
 unfoldable pub indexAt : Shape → ℕ → ℕ
-indexAt s n = slotAt s n + 16 + align8 (s .«key_size»)
+indexAt s n = indexStart (s .«key_size») (slotAt s n)
 
 -- where bucket b begins: "hash64, then slot_plus1"
 unfoldable pub bucketAt : Shape → ℕ → ℕ

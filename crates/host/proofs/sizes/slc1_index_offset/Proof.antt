@@ -1,8 +1,6 @@
 -- `host::sizes::slc1_index_offset` meets its contract.
 -- Assumes nothing.
 use native.Mathlib.Omega.{arith}
-use Prim.Native.Nat.{_+_}
-use Rattle.header.specs.Sizes.{align8}
 use Rattle.header.proofs.SizeLaws.{align8-high}
 use Rattle.host.specs.Places.{indexPlace}
 use Rattle.host.proofs.PlaceLaws.{sizes, place-refused, place-beyond, place-fits, place-inside}
@@ -48,8 +46,8 @@ add-result-3 c =
 returns-3 : tie.Need-returns-3
 unfolding indexPlace
 returns-3 c =
-    let key = c .before .before .before .before .before .args .key-size in
-    rw (c .align8 .ensures) (omega (arith, place-inside _ _ (c .before .before .before .before .options-test .ensures) (c .before .before .before .if1 .left) _ (c .before .before .if2 .left) (c .before .slot-size .ensures) (16 + align8 key)))
+    place-inside _ _ (c .before .before .before .before .options-test .ensures) (c .before .before .before .if1 .left) _ (c .before .before .if2 .left)
+    (rw (c .before .slot-size .ensures, c .align8 .ensures))
 
 pub slc1-index-offset-spec : {M : Type 1} → statement M
 slc1-index-offset-spec =

@@ -35,7 +35,9 @@ mul-result c = omega (arith, add-result-2 c)
 
 returns-3 : tie.Need-returns-3
 unfolding keyPlace
-returns-3 c = place-inside _ _ (c .before .before .before .options-test .ensures) (c .before .before .if1 .left) _ (c .before .if2 .left) (c .slot-size .ensures) 8
+returns-3 c =
+    place-inside _ _ (c .before .before .before .options-test .ensures) (c .before .before .if1 .left) _ (c .before .if2 .left)
+    (rw (c .slot-size .ensures))
 
 pub slc1-key-offset-spec : {M : Type 1} → statement M
 slc1-key-offset-spec =
