@@ -5,25 +5,16 @@ use mathlib.Core.Path.{_≡_, sym, _∙_}
 use mathlib.Core.List.{List}
 use lib.ListN.{length}
 use Rattle.batch.proofs.Filled.{Filled, filled-alike}
-use Rattle.demands.specs.Owes.{Owes, One}
-use Rattle.demands.specs.Outcomes.{Outcomes}
+use Rattle.demands.specs.Outcomes.{One, Outcomes}
 
-module _
+-- outcomes that are one definition's coincide
+follows-one :
     {K : Type 0} {Arguments Result Exit : K → Type 0} {Outcome : Type 0}
-    {after : (κ : K) → Arguments κ → Result κ → Exit κ → Type 0} {outcome : (κ : K) → Result κ → Exit κ → Outcome}
-    {definition : (κ : K) → Arguments κ → Outcome} where
-  -- outcomes that are one definition's coincide
-  follows-one :
-      ((κ : K) (a : Arguments κ) (x : Result κ) (e : Exit κ) → after κ a x e → outcome κ x e ≡ definition κ a) → One after outcome
-  follows-one follows κ a x y e f p q = follows κ a x e p ∙ sym (follows κ a y f q)
-
-  -- a call that meets its contract, takes any arguments and follows a definition owes nothing more
-  pub owing :
-      {theorem : Type 1 → Type 2} {before : (κ : K) → Arguments κ → Type 0} → ((M : Type 1) → theorem M)
-      → ((κ : K) (a : Arguments κ) → before κ a)
-      → ((κ : K) (a : Arguments κ) (x : Result κ) (e : Exit κ) → after κ a x e → outcome κ x e ≡ definition κ a)
-      → Owes theorem before after outcome definition
-  owing met any follows = record { met = λ {M}. met M; any = any; follows = follows; one = follows-one follows }
+    {promise : (κ : K) → Arguments κ → Result κ → Exit κ → Type 0} {outcome : (κ : K) → Result κ → Exit κ → Outcome}
+    {definition : (κ : K) → Arguments κ → Outcome}
+    → ((κ : K) (a : Arguments κ) (x : Result κ) (e : Exit κ) → promise κ a x e → outcome κ x e ≡ definition κ a)
+    → One promise outcome
+follows-one follows κ a x y e f p q = follows κ a x e p ∙ sym (follows κ a y f q)
 
 -- lists of one length that are filled alike coincide
 filled-one :
@@ -39,6 +30,7 @@ filled-one {f} {n} fills κ a x y e g p q =
 pub outcomes : Outcomes
 outcomes =
     record {
+      owed = λ f outcome definition. follows-one (λ κ a x e p. p);
       same-bytes = follows-one (λ κ a x e p. p);
       comes-before = follows-one (λ κ a x e p. p);
       all-zero = follows-one (λ κ a x e p. p);

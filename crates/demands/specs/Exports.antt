@@ -15,187 +15,156 @@ use Rattle.commit.specs.Commit.{commitOf}
 use Rattle.host.specs.Order.{orderNumber}
 use Rattle.host.specs.Places.{totalOf, keyPlace, indexPlace}
 use Rattle.host.specs.UserData.{filled, userDataOf, setUserFieldsFrom}
-use Rattle.demands.specs.Owes.{Owes, written, beside, hostOptions, arg1, arg2, arg7, arg8, arg9, arg10, arg11, arg12, arg13}
-use Rattle.host.proofs.sizes.slc1_total_size.Statement as slc1-total-size-states
-use Rattle.host.proofs.sizes.slc1_total_size.Reads as slc1-total-size-reads
-use Rattle.host.proofs.sizes.slc1_key_offset.Statement as slc1-key-offset-states
-use Rattle.host.proofs.sizes.slc1_key_offset.Reads as slc1-key-offset-reads
-use Rattle.host.proofs.sizes.slc1_index_offset.Statement as slc1-index-offset-states
-use Rattle.host.proofs.sizes.slc1_index_offset.Reads as slc1-index-offset-reads
-use Rattle.host.proofs.open.slc1_open_check.Statement as slc1-open-check-states
-use Rattle.host.proofs.open.slc1_open_check.Reads as slc1-open-check-reads
-use Rattle.host.proofs.open.slc1_user_flags.Statement as slc1-user-flags-states
-use Rattle.host.proofs.open.slc1_user_flags.Reads as slc1-user-flags-reads
-use Rattle.host.proofs.open.slc1_user_data.Statement as slc1-user-data-states
-use Rattle.host.proofs.open.slc1_user_data.Reads as slc1-user-data-reads
-use Rattle.host.proofs.lookup.slc1_lookup.Statement as slc1-lookup-states
-use Rattle.host.proofs.lookup.slc1_lookup.Reads as slc1-lookup-reads
-use Rattle.host.proofs.lookup.slc1_lookup_slot.Statement as slc1-lookup-slot-states
-use Rattle.host.proofs.lookup.slc1_lookup_slot.Reads as slc1-lookup-slot-reads
-use Rattle.host.proofs.lookup.slc1_lookup_revision.Statement as slc1-lookup-revision-states
-use Rattle.host.proofs.lookup.slc1_lookup_revision.Reads as slc1-lookup-revision-reads
-use Rattle.host.proofs.lookup.slc1_lookup_buckets.Statement as slc1-lookup-buckets-states
-use Rattle.host.proofs.lookup.slc1_lookup_buckets.Reads as slc1-lookup-buckets-reads
-use Rattle.host.proofs.check.slc1_full_check.Statement as slc1-full-check-states
-use Rattle.host.proofs.check.slc1_full_check.Reads as slc1-full-check-reads
-use Rattle.host.proofs.check.slc1_full_check_live.Statement as slc1-full-check-live-states
-use Rattle.host.proofs.check.slc1_full_check_live.Reads as slc1-full-check-live-reads
-use Rattle.host.proofs.check.slc1_full_check_tombstones.Statement as slc1-full-check-tombstones-states
-use Rattle.host.proofs.check.slc1_full_check_tombstones.Reads as slc1-full-check-tombstones-reads
-use Rattle.host.proofs.check.slc1_full_check_probes.Statement as slc1-full-check-probes-states
-use Rattle.host.proofs.check.slc1_full_check_probes.Reads as slc1-full-check-probes-reads
-use Rattle.host.proofs.list.slc1_scan.Statement as slc1-scan-states
-use Rattle.host.proofs.list.slc1_scan.Reads as slc1-scan-reads
-use Rattle.host.proofs.list.slc1_scan_total.Statement as slc1-scan-total-states
-use Rattle.host.proofs.list.slc1_scan_total.Reads as slc1-scan-total-reads
-use Rattle.host.proofs.list.slc1_scan_written.Statement as slc1-scan-written-states
-use Rattle.host.proofs.list.slc1_scan_written.Reads as slc1-scan-written-reads
-use Rattle.host.proofs.list.slc1_match.Statement as slc1-match-states
-use Rattle.host.proofs.list.slc1_match.Reads as slc1-match-reads
-use Rattle.host.proofs.list.slc1_match_total.Statement as slc1-match-total-states
-use Rattle.host.proofs.list.slc1_match_total.Reads as slc1-match-total-reads
-use Rattle.host.proofs.list.slc1_match_written.Statement as slc1-match-written-states
-use Rattle.host.proofs.list.slc1_match_written.Reads as slc1-match-written-reads
-use Rattle.host.proofs.write.slc1_create.Statement as slc1-create-states
-use Rattle.host.proofs.write.slc1_create.Reads as slc1-create-reads
-use Rattle.host.proofs.write.slc1_begin.Statement as slc1-begin-states
-use Rattle.host.proofs.write.slc1_begin.Reads as slc1-begin-reads
-use Rattle.host.proofs.write.slc1_checkpoint.Statement as slc1-checkpoint-states
-use Rattle.host.proofs.write.slc1_checkpoint.Reads as slc1-checkpoint-reads
-use Rattle.host.proofs.write.slc1_invalidate.Statement as slc1-invalidate-states
-use Rattle.host.proofs.write.slc1_invalidate.Reads as slc1-invalidate-reads
-use Rattle.host.proofs.write.slc1_set_user_fields.Statement as slc1-set-user-fields-states
-use Rattle.host.proofs.write.slc1_set_user_fields.Reads as slc1-set-user-fields-reads
-use Rattle.host.proofs.write.slc1_commit.Statement as slc1-commit-states
-use Rattle.host.proofs.write.slc1_commit.Reads as slc1-commit-reads
-use Rattle.host.proofs.age.slc1_revision_order.Statement as slc1-revision-order-states
-use Rattle.host.proofs.age.slc1_revision_order.Reads as slc1-revision-order-reads
-use Rattle.host.proofs.age.slc1_revision_distance.Statement as slc1-revision-distance-states
-use Rattle.host.proofs.age.slc1_revision_distance.Reads as slc1-revision-distance-reads
-use Rattle.host.proofs.digest.slc1_fnv1a64.Statement as slc1-fnv1a64-states
-use Rattle.host.proofs.digest.slc1_fnv1a64.Reads as slc1-fnv1a64-reads
-use Rattle.host.proofs.digest.slc1_crc32c.Statement as slc1-crc32c-states
-use Rattle.host.proofs.digest.slc1_crc32c.Reads as slc1-crc32c-reads
+use Rattle.host.proofs.sizes.slc1_total_size as total-size
+use Rattle.host.proofs.sizes.slc1_key_offset as key-offset
+use Rattle.host.proofs.sizes.slc1_index_offset as index-offset
+use Rattle.host.proofs.open.slc1_open_check as open-check
+use Rattle.host.proofs.open.slc1_user_flags as user-flags
+use Rattle.host.proofs.open.slc1_user_data as user-data
+use Rattle.host.proofs.lookup.slc1_lookup as lookup
+use Rattle.host.proofs.lookup.slc1_lookup_slot as lookup-slot
+use Rattle.host.proofs.lookup.slc1_lookup_revision as lookup-revision
+use Rattle.host.proofs.lookup.slc1_lookup_buckets as lookup-buckets
+use Rattle.host.proofs.check.slc1_full_check as full-check
+use Rattle.host.proofs.check.slc1_full_check_live as full-check-live
+use Rattle.host.proofs.check.slc1_full_check_tombstones as full-check-tombstones
+use Rattle.host.proofs.check.slc1_full_check_probes as full-check-probes
+use Rattle.host.proofs.list.slc1_scan as scan
+use Rattle.host.proofs.list.slc1_scan_total as scan-total
+use Rattle.host.proofs.list.slc1_scan_written as scan-written
+use Rattle.host.proofs.list.slc1_match as match
+use Rattle.host.proofs.list.slc1_match_total as match-total
+use Rattle.host.proofs.list.slc1_match_written as match-written
+use Rattle.host.proofs.write.slc1_create as create
+use Rattle.host.proofs.write.slc1_begin as begin
+use Rattle.host.proofs.write.slc1_checkpoint as checkpoint
+use Rattle.host.proofs.write.slc1_invalidate as invalidate
+use Rattle.host.proofs.write.slc1_set_user_fields as set-user-fields
+use Rattle.host.proofs.write.slc1_commit as commit
+use Rattle.host.proofs.age.slc1_revision_order as revision-order
+use Rattle.host.proofs.age.slc1_revision_distance as revision-distance
+use Rattle.host.proofs.digest.slc1_fnv1a64 as fnv1a64
+use Rattle.host.proofs.digest.slc1_crc32c as crc32c
+use Rattle.demands.specs.Owes.{Owes, written, beside, one, hostOptions, arg1, arg2, arg7, arg8, arg9, arg10, arg11, arg12, arg13}
 
--- As the calls of the library: each takes any bytes, ends, stays inside what it was lent, and its outcome is the definition's.
 pub record Exports : Type 2 where
   pub total-size :
-      Owes slc1-total-size-states.statement slc1-total-size-reads.Pre slc1-total-size-reads.Post
+      Owes total-size.ended total-size.Symbol.routine
       (λ κ x e. x)
       (λ κ a. totalOf (hostOptions a))
   pub key-offset :
-      Owes slc1-key-offset-states.statement slc1-key-offset-reads.Pre slc1-key-offset-reads.Post
+      Owes key-offset.ended key-offset.Symbol.routine
       (λ κ x e. x)
       (λ κ a. keyPlace (hostOptions a) (arg7 a))
   pub index-offset :
-      Owes slc1-index-offset-states.statement slc1-index-offset-reads.Pre slc1-index-offset-reads.Post
+      Owes index-offset.ended index-offset.Symbol.routine
       (λ κ x e. x)
       (λ κ a. indexPlace (hostOptions a) (arg7 a))
   pub open-check :
-      Owes slc1-open-check-states.statement slc1-open-check-reads.Pre slc1-open-check-reads.Post
+      Owes open-check.ended open-check.Symbol.routine
       (λ κ x e. x)
       (λ κ a. openOf (hostOptions (a .1)) (now (arg1 a)) .answer)
   pub user-flags :
-      Owes slc1-user-flags-states.statement slc1-user-flags-reads.Pre slc1-user-flags-reads.Post
+      Owes user-flags.ended user-flags.Symbol.routine
       (λ κ x e. x)
       (λ κ a. openOf (hostOptions (a .1)) (now (arg1 a)) .fields .«user_flags»)
   pub user-data :
-      Owes slc1-user-data-states.statement slc1-user-data-reads.Pre slc1-user-data-reads.Post
+      Owes user-data.ended user-data.Symbol.routine
       (λ κ x e. filled x (now (arg8 e)))
       (λ κ a. userDataOf (hostOptions (a .1)) (now (arg1 a)) (now (arg8 a)))
   pub lookup :
-      Owes slc1-lookup-states.statement slc1-lookup-reads.Pre slc1-lookup-reads.Post
+      Owes lookup.ended lookup.Symbol.routine
       (λ κ x e. x)
       (λ κ a. lookupOf (hostOptions (a .1)) (now (arg1 a)) (now (arg8 a)) .answer)
   pub lookup-slot :
-      Owes slc1-lookup-slot-states.statement slc1-lookup-slot-reads.Pre slc1-lookup-slot-reads.Post
+      Owes lookup-slot.ended lookup-slot.Symbol.routine
       (λ κ x e. x)
       (λ κ a. lookupOf (hostOptions (a .1)) (now (arg1 a)) (now (arg8 a)) .slot)
   pub lookup-revision :
-      Owes slc1-lookup-revision-states.statement slc1-lookup-revision-reads.Pre slc1-lookup-revision-reads.Post
+      Owes lookup-revision.ended lookup-revision.Symbol.routine
       (λ κ x e. x)
       (λ κ a. lookupOf (hostOptions (a .1)) (now (arg1 a)) (now (arg8 a)) .revision)
   pub lookup-buckets :
-      Owes slc1-lookup-buckets-states.statement slc1-lookup-buckets-reads.Pre slc1-lookup-buckets-reads.Post
+      Owes lookup-buckets.ended lookup-buckets.Symbol.routine
       (λ κ x e. x)
       (λ κ a. lookupOf (hostOptions (a .1)) (now (arg1 a)) (now (arg8 a)) .buckets)
   pub full-check :
-      Owes slc1-full-check-states.statement slc1-full-check-reads.Pre slc1-full-check-reads.Post
+      Owes full-check.ended full-check.Symbol.routine
       (λ κ x e. x)
       (λ κ a. checkOf (hostOptions (a .1)) (now (arg1 a)) .answer)
   pub full-check-live :
-      Owes slc1-full-check-live-states.statement slc1-full-check-live-reads.Pre slc1-full-check-live-reads.Post
+      Owes full-check-live.ended full-check-live.Symbol.routine
       (λ κ x e. x)
       (λ κ a. checkOf (hostOptions (a .1)) (now (arg1 a)) .live)
   pub full-check-tombstones :
-      Owes slc1-full-check-tombstones-states.statement slc1-full-check-tombstones-reads.Pre slc1-full-check-tombstones-reads.Post
+      Owes full-check-tombstones.ended full-check-tombstones.Symbol.routine
       (λ κ x e. x)
       (λ κ a. checkOf (hostOptions (a .1)) (now (arg1 a)) .tombstones)
   pub full-check-probes :
-      Owes slc1-full-check-probes-states.statement slc1-full-check-probes-reads.Pre slc1-full-check-probes-reads.Post
+      Owes full-check-probes.ended full-check-probes.Symbol.routine
       (λ κ x e. x)
       (λ κ a. checkOf (hostOptions (a .1)) (now (arg1 a)) .probes)
   pub scan :
-      Owes slc1-scan-states.statement slc1-scan-reads.Pre slc1-scan-reads.Post
+      Owes scan.ended scan.Symbol.routine
       (λ κ x e. beside x (now (arg10 e)))
-      (λ κ a. beside (scanOf (hostOptions (a .1)) (now (arg1 a)) (arg8 a) (arg9 a) (now (arg10 a)) .listed .answer) (scanOf (hostOptions (a .1)) (now (arg1 a)) (arg8 a) (arg9 a) (now (arg10 a)) .numbers))
+      (λ κ a. one (λ l. l .answer) (scanOf (hostOptions (a .1)) (now (arg1 a)) (arg8 a) (arg9 a) (now (arg10 a))))
   pub scan-total :
-      Owes slc1-scan-total-states.statement slc1-scan-total-reads.Pre slc1-scan-total-reads.Post
+      Owes scan-total.ended scan-total.Symbol.routine
       (λ κ x e. beside x (now (arg10 e)))
-      (λ κ a. beside (scanOf (hostOptions (a .1)) (now (arg1 a)) (arg8 a) (arg9 a) (now (arg10 a)) .listed .total) (scanOf (hostOptions (a .1)) (now (arg1 a)) (arg8 a) (arg9 a) (now (arg10 a)) .numbers))
+      (λ κ a. one (λ l. l .total) (scanOf (hostOptions (a .1)) (now (arg1 a)) (arg8 a) (arg9 a) (now (arg10 a))))
   pub scan-written :
-      Owes slc1-scan-written-states.statement slc1-scan-written-reads.Pre slc1-scan-written-reads.Post
+      Owes scan-written.ended scan-written.Symbol.routine
       (λ κ x e. beside x (now (arg10 e)))
-      (λ κ a. beside (scanOf (hostOptions (a .1)) (now (arg1 a)) (arg8 a) (arg9 a) (now (arg10 a)) .listed .written) (scanOf (hostOptions (a .1)) (now (arg1 a)) (arg8 a) (arg9 a) (now (arg10 a)) .numbers))
+      (λ κ a. one (λ l. l .written) (scanOf (hostOptions (a .1)) (now (arg1 a)) (arg8 a) (arg9 a) (now (arg10 a))))
   pub match :
-      Owes slc1-match-states.statement slc1-match-reads.Pre slc1-match-reads.Post
+      Owes match.ended match.Symbol.routine
       (λ κ x e. beside x (now (arg13 e)))
-      (λ κ a. beside (matchOf (hostOptions (a .1)) (now (arg1 a)) (arg8 a) (arg9 a) (now (arg10 a)) (arg11 a) (arg12 a) (now (arg13 a)) .listed .answer) (matchOf (hostOptions (a .1)) (now (arg1 a)) (arg8 a) (arg9 a) (now (arg10 a)) (arg11 a) (arg12 a) (now (arg13 a)) .numbers))
+      (λ κ a. one (λ l. l .answer) (matchOf (hostOptions (a .1)) (now (arg1 a)) (arg8 a) (arg9 a) (now (arg10 a)) (arg11 a) (arg12 a) (now (arg13 a))))
   pub match-total :
-      Owes slc1-match-total-states.statement slc1-match-total-reads.Pre slc1-match-total-reads.Post
+      Owes match-total.ended match-total.Symbol.routine
       (λ κ x e. beside x (now (arg13 e)))
-      (λ κ a. beside (matchOf (hostOptions (a .1)) (now (arg1 a)) (arg8 a) (arg9 a) (now (arg10 a)) (arg11 a) (arg12 a) (now (arg13 a)) .listed .total) (matchOf (hostOptions (a .1)) (now (arg1 a)) (arg8 a) (arg9 a) (now (arg10 a)) (arg11 a) (arg12 a) (now (arg13 a)) .numbers))
+      (λ κ a. one (λ l. l .total) (matchOf (hostOptions (a .1)) (now (arg1 a)) (arg8 a) (arg9 a) (now (arg10 a)) (arg11 a) (arg12 a) (now (arg13 a))))
   pub match-written :
-      Owes slc1-match-written-states.statement slc1-match-written-reads.Pre slc1-match-written-reads.Post
+      Owes match-written.ended match-written.Symbol.routine
       (λ κ x e. beside x (now (arg13 e)))
-      (λ κ a. beside (matchOf (hostOptions (a .1)) (now (arg1 a)) (arg8 a) (arg9 a) (now (arg10 a)) (arg11 a) (arg12 a) (now (arg13 a)) .listed .written) (matchOf (hostOptions (a .1)) (now (arg1 a)) (arg8 a) (arg9 a) (now (arg10 a)) (arg11 a) (arg12 a) (now (arg13 a)) .numbers))
+      (λ κ a. one (λ l. l .written) (matchOf (hostOptions (a .1)) (now (arg1 a)) (arg8 a) (arg9 a) (now (arg10 a)) (arg11 a) (arg12 a) (now (arg13 a))))
   pub create :
-      Owes slc1-create-states.statement slc1-create-reads.Pre slc1-create-reads.Post
+      Owes create.ended create.Symbol.routine
       (λ κ x e. written x (now (arg1 e)))
       (λ κ a. createOf (hostOptions (a .1)) (now (arg1 a)))
   pub begin :
-      Owes slc1-begin-states.statement slc1-begin-reads.Pre slc1-begin-reads.Post
+      Owes begin.ended begin.Symbol.routine
       (λ κ x e. written x (now (arg1 e)))
       (λ κ a. beginOf (hostOptions (a .1)) (now (arg1 a)))
   pub checkpoint :
-      Owes slc1-checkpoint-states.statement slc1-checkpoint-reads.Pre slc1-checkpoint-reads.Post
+      Owes checkpoint.ended checkpoint.Symbol.routine
       (λ κ x e. written x (now (arg1 e)))
       (λ κ a. checkpointOf (hostOptions (a .1)) (now (arg1 a)))
   pub invalidate :
-      Owes slc1-invalidate-states.statement slc1-invalidate-reads.Pre slc1-invalidate-reads.Post
+      Owes invalidate.ended invalidate.Symbol.routine
       (λ κ x e. written x (now (arg1 e)))
       (λ κ a. invalidateOf (hostOptions (a .1)) (now (arg1 a)))
   pub set-user-fields :
-      Owes slc1-set-user-fields-states.statement slc1-set-user-fields-reads.Pre slc1-set-user-fields-reads.Post
+      Owes set-user-fields.ended set-user-fields.Symbol.routine
       (λ κ x e. written x (now (arg1 e)))
       (λ κ a. setUserFieldsFrom (hostOptions (a .1)) (now (arg1 a)) (arg8 a) (now (arg9 a)))
   pub commit :
-      Owes slc1-commit-states.statement slc1-commit-reads.Pre slc1-commit-reads.Post
+      Owes commit.ended commit.Symbol.routine
       (λ κ x e. written x (now (arg1 e)))
       (λ κ a. commitOf (hostOptions (a .1)) (now (arg1 a)) (now (arg8 a)))
   pub revision-order :
-      Owes slc1-revision-order-states.statement slc1-revision-order-reads.Pre slc1-revision-order-reads.Post
+      Owes revision-order.ended revision-order.Symbol.routine
       (λ κ x e. x)
       (λ κ a. orderNumber (ageOf (arg1 a) (arg2 a) .order))
   pub revision-distance :
-      Owes slc1-revision-distance-states.statement slc1-revision-distance-reads.Pre slc1-revision-distance-reads.Post
+      Owes revision-distance.ended revision-distance.Symbol.routine
       (λ κ x e. x)
       (λ κ a. ageOf (arg1 a) (arg2 a) .distance)
   pub fnv1a64 :
-      Owes slc1-fnv1a64-states.statement slc1-fnv1a64-reads.Pre slc1-fnv1a64-reads.Post
+      Owes fnv1a64.ended fnv1a64.Symbol.routine
       (λ κ x e. x)
       (λ κ a. fnv1a64 (now (arg1 a)))
   pub crc32c :
-      Owes slc1-crc32c-states.statement slc1-crc32c-reads.Pre slc1-crc32c-reads.Post
+      Owes crc32c.ended crc32c.Symbol.routine
       (λ κ x e. x)
       (λ κ a. crc32c (now (arg1 a)))

@@ -1,8 +1,10 @@
--- "any two outcomes allowed by a promise coincide", for the public functions that the calls are made of. Of a call, what it
--- owes says so.
+-- "Prove that any two outcomes allowed by a promise coincide": of the calls, and of the public functions that they are made of.
 -- Assumes nothing.
+use mathlib.Core.Path.{_≡_}
 use denote.Ref.{now}
-use Rattle.demands.specs.Owes.{One, arg1}
+use denote.Triple.Entry.{Args, Res}
+use denote.Triple.Clauses.{Ended, AtExit}
+use Rattle.demands.specs.Owes.{Lifetimes, arg1}
 use Rattle.numbers.proofs.parts.same_bytes.Reads as same-bytes-reads
 use Rattle.numbers.proofs.parts.comes_before.Reads as comes-before-reads
 use Rattle.numbers.proofs.parts.all_zero.Reads as all-zero-reads
@@ -68,7 +70,17 @@ use Rattle.batch.proofs.news.mark_news.Reads as mark-news-reads
 use Rattle.batch.proofs.news.marked_at.Reads as marked-at-reads
 use Rattle.applying.proofs.apply.apply.Reads as apply-reads
 
-pub record Outcomes : Type 0 where
+-- A promise speaks of the arguments, the result and what is lent at the return; `outcome` picks what a caller sees.
+abbrev pub One : {K : Type 0} {Arguments Result Exit : K → Type 0} {Outcome : Type 0}
+    → ((κ : K) → Arguments κ → Result κ → Exit κ → Type 0) → ((κ : K) → Result κ → Exit κ → Outcome) → Type 0
+One {K} {Arguments} {Result} {Exit} promise outcome =
+    (κ : K) (a : Arguments κ) (x y : Result κ) (e f : Exit κ) → promise κ a x e → promise κ a y f → outcome κ x e ≡ outcome κ y f
+
+pub record Outcomes : Type 2 where
+  -- what a call owes (`Owes`): an outcome that is a definition's
+  pub owed : {Outcome : Type 0} (f : Ended) (outcome : (κ : Lifetimes f) → Res (f .signature) κ → AtExit f κ → Outcome)
+      (definition : (κ : Lifetimes f) → Args (f .signature) κ → Outcome)
+      → One (λ κ a x e. outcome κ x e ≡ definition κ a) outcome
   -- numbers, parts
   pub same-bytes : One same-bytes-reads.Post (λ κ x e. x)
   pub comes-before : One comes-before-reads.Post (λ κ x e. x)

@@ -3,33 +3,48 @@
 use Prim.Native.Nat.{ℕ}
 use mathlib.Core.Path.{_≡_}
 use mathlib.Core.List.{List}
+use base.Logic.{emp}
+use prog.Routine.{Routine}
+use contract.Monad.{fact}
+use contract.Lifetimes.{Lfts}
+use denote.Triple.Entry.{Args, Res}
+use denote.Triple.Spec.{Meets}
+use denote.Triple.Clauses.{Ended, AtExit, closing}
+use borrow.Fn.World.{World}
 use Rattle.header.specs.declared.options.Options.{Options}
 use Rattle.listing.specs.declared.listed.Listed.{Listed}
 use Rattle.listing.specs.Scan.{Outcome}
 use Rattle.writing.specs.Write.{Written}
 use Rattle.host.specs.Options.{optionsOf}
 
--- "any two outcomes allowed by a promise coincide"
-abbrev pub One : {K : Type 0} {Arguments Result Exit : K → Type 0} {Outcome : Type 0}
-    → ((κ : K) → Arguments κ → Result κ → Exit κ → Type 0) → ((κ : K) → Result κ → Exit κ → Outcome) → Type 0
-One {K} {Arguments} {Result} {Exit} after outcome =
-    (κ : K) (a : Arguments κ) (x y : Result κ) (e f : Exit κ) → after κ a x e → after κ a y f → outcome κ x e ≡ outcome κ y f
+-- A function is, to the toolchain, its parameters and result (f) and a routine: what the machine does on a call of it, by the
+-- code that is compiled. A κ names the lifetimes of what is lent, a are the arguments, x is the result, and e is what is lent
+-- at the return.
+module _ (f : Ended) where
+  abbrev pub Lifetimes : Type 0
+  Lifetimes = Lfts (f .signature .lifetimes)
 
--- Of a call: `theorem` is what the prover states of its code, that wherever `before` holds of the arguments a call ends,
--- stays inside what it was lent, and leaves `after` true of the arguments, the result and what is lent at the exit. A κ
--- names the lifetimes of what is lent. `outcome` picks what a caller sees: the result and the lent bytes afterwards.
+  abbrev pub Promise : Type 1
+  Promise = (κ : Lifetimes) → Args (f .signature) κ → Res (f .signature) κ → AtExit f κ → Type 0
+
+  -- What the toolchain proves of a function (`Meets`), at the contract that asks for nothing and ensures a promise: in every
+  -- world, with any arguments, a call of the routine ends, stays inside what it was lent, and leaves the promise true.
+  abbrev pub Keeps : Routine → Promise → Type 2
+  Keeps routine promise =
+      (w : World)
+      → Meets (w .𝓤) (w .H) (w .𝓖 .A) (f .signature) (w .𝓡 .run routine)
+      (closing (w .𝓤) (w .H) (w .𝓖 .A) f
+      (λ κ a. record { ghost = Unit {0}; requires = λ g. emp (w .𝓤); ensures = λ g x e. fact (w .𝓤) (promise κ a x e) }))
+
+-- "Any bytes may be lent ... Every call ends, stays inside what it was lent"; "Each call's result and every lent byte
+-- afterwards follow from its inputs alone, refusals too." `outcome` picks what a caller sees, the result and the lent bytes
+-- afterwards, and that is what the definition says of the arguments. The routine and the definition meet in one statement, so
+-- the theorem of another function has no place here.
 pub record Owes
-    {K : Type 0} {Arguments Result Exit : K → Type 0} {Outcome : Type 0} (theorem : Type 1 → Type 2)
-    (before : (κ : K) → Arguments κ → Type 0) (after : (κ : K) → Arguments κ → Result κ → Exit κ → Type 0)
-    (outcome : (κ : K) → Result κ → Exit κ → Outcome) (definition : (κ : K) → Arguments κ → Outcome)
+    {Outcome : Type 0} (f : Ended) (routine : Routine) (outcome : (κ : Lifetimes f) → Res (f .signature) κ → AtExit f κ → Outcome)
+    (definition : (κ : Lifetimes f) → Args (f .signature) κ → Outcome)
     : Type 2 where
-  -- "Every call ends, stays inside what it was lent"
-  pub met : {M : Type 1} → theorem M
-  -- "Any bytes may be lent"
-  pub any : (κ : K) (a : Arguments κ) → before κ a
-  -- "Each call's result and every lent byte afterwards follow from its inputs alone, refusals too."
-  pub follows : (κ : K) (a : Arguments κ) (x : Result κ) (e : Exit κ) → after κ a x e → outcome κ x e ≡ definition κ a
-  pub one : One after outcome
+  pub met : Keeps f routine (λ κ a x e. outcome κ x e ≡ definition κ a)
 
 -- the arguments of a call, in their order
 abbrev pub arg1 : {A B : Type 0} → A × B → A
@@ -82,5 +97,13 @@ written answer image = record { answer = answer; image = image }
 abbrev pub outcome : Listed → List ℕ → Outcome
 outcome listed numbers = record { listed = listed; numbers = numbers }
 
-abbrev pub beside : ℕ → List ℕ → ℕ × List ℕ
-beside number numbers = (number, numbers)
+-- one of a listing's numbers, with the list that is left
+pub record Beside : Type 0 where
+  pub number : ℕ
+  pub numbers : List ℕ
+
+abbrev pub beside : ℕ → List ℕ → Beside
+beside number numbers = record { number = number; numbers = numbers }
+
+abbrev pub one : (Listed → ℕ) → Outcome → Beside
+one number x = beside (number (x .listed)) (x .numbers)

@@ -79,8 +79,7 @@ pub fn match_bits(
     limit: u64,
     numbers: &mut [u32],
 ) -> Listed
-    ensures { λ r. ⌜ r ≡ matchOf o (now (image .entry)) offset bits (now (pattern .entry)) skip limit (now (numbers .entry)) .listed ⌝ }
-    ensures { λ r. ⌜ now (numbers .exit) ≡ matchOf o (now (image .entry)) offset bits (now (pattern .entry)) skip limit (now (numbers .entry)) .numbers ⌝ }
+    ensures { λ r. ⌜ (r ≡ matchOf o (now (image .entry)) offset bits (now (pattern .entry)) skip limit (now (numbers .entry)) .listed) × (now (numbers .exit) ≡ matchOf o (now (image .entry)) offset bits (now (pattern .entry)) skip limit (now (numbers .entry)) .numbers) ⌝ }
 {
     let judged = judge(image, o);
     match judged {

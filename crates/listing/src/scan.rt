@@ -11,8 +11,7 @@ use header::shape::Judged;
 // Lists the live slots of an image: their numbers, ascending, after a skip and up to a limit. Entries past those written, and
 // the whole list with any answer but 0, are unchanged.
 pub fn scan(image: &[u8], o: Options, skip: u64, limit: u64, numbers: &mut [u32]) -> Listed
-    ensures { λ r. ⌜ r ≡ scanOf o (now (image .entry)) skip limit (now (numbers .entry)) .listed ⌝ }
-    ensures { λ r. ⌜ now (numbers .exit) ≡ scanOf o (now (image .entry)) skip limit (now (numbers .entry)) .numbers ⌝ }
+    ensures { λ r. ⌜ (r ≡ scanOf o (now (image .entry)) skip limit (now (numbers .entry)) .listed) × (now (numbers .exit) ≡ scanOf o (now (image .entry)) skip limit (now (numbers .entry)) .numbers) ⌝ }
 {
     let judged = judge(image, o);
     match judged {
