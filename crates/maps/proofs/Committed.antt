@@ -16,6 +16,7 @@ use Rattle.header.specs.Fields as F
 use Rattle.header.specs.Fields.{value}
 use Rattle.header.specs.FirstOf.{firstOf}
 use Rattle.header.specs.HeaderTest.{headerTest, shapeOf}
+use Rattle.header.specs.Open.{userFields}
 use Rattle.image.specs.Table.{metaOf, keyOf}
 use Rattle.image.specs.Check.{passes}
 use Rattle.image.proofs.FullCheck.{Whole, passes-whole}
@@ -33,7 +34,7 @@ use Rattle.maps.proofs.Live.{Spared, Kept, live-kept}
 use Rattle.maps.proofs.Grown.{Grown, new-grown}
 use Rattle.maps.proofs.Settled.{is-tidy, settled-length, settled-slot, settled-behind, settled-shape, settled-passes}
 use Rattle.maps.proofs.Lent.{new-lent, tidied-lent, committed-lent}
-use Rattle.maps.proofs.Header.{header-passes}
+use Rattle.maps.proofs.Header.{user-kept, header-passes}
 use Rattle.maps.proofs.Accepted.{Accepted, accepted-facts}
 
 -- the shape that a commit leaves: the counters are those of the table, the generation has moved on by 2
@@ -54,6 +55,7 @@ pub record Committed (o : Options) (image batch image′ : List ℕ) : Type 0 wh
   pub header : (role : ℕ) → role ≤ 2 → (role ≡ 0 → ⊥) → headerTest (withRole o role) image′ ≡ 0
   pub passes : passes (shapeOf image′) image′ ≡ true
   pub shape : shapeOf image′ ≡ shapeAfter image batch
+  pub user : userFields image′ ≡ userFields image
   pub few : 4 * shapeOf image′ .«bucket_tombstones» ≤ shapeOf image .«bucket_count»
   -- an old slot keeps its key, and is live if it was and its key is not deleted
   pub keys : (n : ℕ) → n < shapeOf image .«slot_highwater» → keyOf (shapeOf image) image′ n ≡ keyOf (shapeOf image) image n
@@ -96,6 +98,10 @@ module _ (o : Options) (image batch : List ℕ) (lent : Bytes image) (lent-batch
       header-passes o image (header-holds o image (facts .header)) n grown (has-grown .around) head (has-grown .fit) (has-grown .formed)
       (facts .more) (tidied-lent (withSlots s n) grown (new-lent s batch lent-batch image lent count)) (facts .dirty)
 
+  user′ : userFields image′ ≡ userFields image
+  unfolding committed
+  user′ = user-kept o image (header-holds o image (facts .header)) n grown (has-grown .around) head (has-grown .fit) (has-grown .formed)
+
   more : value grown F.generation + 2 < 2 ^ 64
   unfolding value
   more = rw (around-bytes (has-grown .around) F.generation) (facts .more)
@@ -135,6 +141,7 @@ module _ (o : Options) (image batch : List ℕ) (lent : Bytes image) (lent-batch
         header = header′;
         passes = passes′;
         shape = shape′;
+        user = user′;
         few = few′;
         keys = λ m l. old′ m l .key ∙ kept .keys m (omega (arith, facts .ready .fit .highwater));
         lives = λ m l. (λ e. kept .lives m l .0 (sym (old′ m l .meta) ∙ e), λ e. old′ m l .meta ∙ kept .lives m l .1 e);

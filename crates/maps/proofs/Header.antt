@@ -1,4 +1,5 @@
--- The header that a commit leaves passes the header test, for the caller who holds the lock and beside it.
+-- The header that a commit leaves passes the header test, for the caller who holds the lock and beside it, and has the same
+-- user fields.
 -- Assumes nothing.
 use Prim.Native.Nat.{ℕ, _+_, _%_, _^_, _≤_, _<_}
 use mathlib.Core.Path.{_≡_, refl, ap, _∙_}
@@ -14,6 +15,7 @@ use Rattle.header.specs.Fields as F
 use Rattle.header.specs.Fields.{bytesIn, value}
 use Rattle.header.specs.FirstOf.{firstOf}
 use Rattle.header.specs.HeaderTest.{DIRTY, test2, test3, test4, test5, test6, test8, test9, test10, test11, headerTest, shapeOf}
+use Rattle.header.specs.Open.{userFields}
 use Rattle.header.specs.Shaped.{Shaped}
 use Rattle.image.specs.Table.{tableOf}
 use Rattle.writing.proofs.Bytes.{Bytes}
@@ -21,6 +23,7 @@ use Rattle.writing.proofs.OneField.{apart}
 use Rattle.writing.proofs.FieldList.{misses}
 use Rattle.writing.proofs.Tests.{Holds, even-passed, header-by-state}
 use Rattle.writing.proofs.Kept.{withRole, any-role}
+use Rattle.writing.proofs.UserLaws.{same-user}
 use Rattle.slots.proofs.Table.Around.{Around, around-bytes}
 use Rattle.slots.proofs.Table.Counted as write
 use Rattle.applying.specs.Apply.{withCounters, withSlots, tidied, recounted, settled}
@@ -61,6 +64,10 @@ module _ (o : Options) (start : List ℕ) (holds : Holds o start) (n : ℕ) (ima
   v : (m : ℕ) → T (misses (write.counters new tidy is-fit) m) → T (apart m F.header-crc32c) → value after m ≡ value start m
   unfolding value
   v m other crc = ap word (b m other crc)
+
+  -- the user fields are none of those that a commit writes
+  pub user-kept : userFields after ≡ userFields start
+  user-kept = same-user start after (b F.user-flags tt tt) (b F.user-data tt tt)
 
   same-length : length after ≡ length start
   same-length = settled-length s n image head fit formed ∙ around .size

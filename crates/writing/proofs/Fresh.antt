@@ -13,6 +13,7 @@ use Rattle.header.specs.Fields as F
 use Rattle.header.specs.Fields.{fieldOf, bytesIn, value}
 use Rattle.header.specs.FirstOf.{firstOf}
 use Rattle.header.specs.HeaderTest.{test1, headerTest}
+use Rattle.header.specs.Open.{userFields, noFields}
 use Rattle.header.specs.Sizes.{totalSize}
 use Rattle.header.proofs.Allowed.{Allowed, allowed, offset-fits}
 use Rattle.header.proofs.Firsts.{first-none}
@@ -21,7 +22,7 @@ use Rattle.header.proofs.SizeLaws.{slot-size-limit, bucket-count-high}
 use Rattle.writing.specs.Write.{withFields, sealed}
 use Rattle.writing.specs.Create.{createTests, freshFields, fresh, createOf}
 use Rattle.writing.proofs.OneField.{Fits, apart, in-header}
-use Rattle.writing.proofs.FieldList.{Fitting, after, fields-length, fields-value, fields-bytes, fields-behind, fields-append}
+use Rattle.writing.proofs.FieldList.{Fitting, after, misses, fields-length, fields-value, fields-bytes, fields-behind, fields-append}
 use Rattle.writing.proofs.Bytes.{Bytes, append-bytes, drop-bytes, replicate-bytes}
 use Rattle.writing.proofs.Seal.{seal-length, seal-bytes, seal-other, seal-behind, seal-crc, seal-append}
 use Rattle.writing.proofs.Tests.{header-by-state}
@@ -115,13 +116,23 @@ module _ (o : Options) (buffer : List ℕ) where
         ∙ fields-behind (freshFields o) (cleared o buffer) long′ at n low
         ∙ part-cleared at n high)
 
+    -- a field that is not written is zero
+    unwritten : (m : ℕ) → T (misses (freshFields o) m) → T (apart m F.header-crc32c)
+        → bytesIn (createOf o buffer .image) m ≡ replicate (fieldOf m .width) 0
+    unwritten m t crc =
+        rw (create-left z)
+        (seal-bytes (withFields (cleared o buffer) (freshFields o)) written-long m crc
+        ∙ fields-bytes (freshFields o) (cleared o buffer) long′ m t
+        ∙ bytes-cleared m)
+
     reserved : bytesIn (createOf o buffer .image) F.reserved ≡ replicate 64 0
     unfolding freshFields
-    reserved =
-        rw (create-left z)
-        (seal-bytes (withFields (cleared o buffer) (freshFields o)) written-long F.reserved tt
-        ∙ fields-bytes (freshFields o) (cleared o buffer) long′ F.reserved tt
-        ∙ bytes-cleared F.reserved)
+    reserved = unwritten F.reserved tt tt
+
+    -- "user fields 0"
+    pub fresh-user : userFields (createOf o buffer .image) ≡ noFields
+    unfolding userFields noFields freshFields
+    fresh-user = rw (fresh-value F.user-flags tt, unwritten F.user-data tt tt) refl
 
     module _ (bytes : Bytes buffer) where
       written-bytes : Bytes (withFields (cleared o buffer) (freshFields o))

@@ -1,6 +1,7 @@
--- What set user fields makes of an image, where it answers 0.
+-- What set user fields makes of an image, where it answers 0, and that begin and checkpoint keep the user fields.
 -- Assumes nothing.
-use Prim.Native.Nat.{ℕ, _+_, _≤_}
+use Prim.Native.Nat.{ℕ, zero, suc, _+_, _≤_}
+use mathlib.Core.Bool.{Bool, true, false, cond}
 use mathlib.Core.Path.{_≡_, refl, sym, ap, _∙_}
 use mathlib.Core.List.{List, [], _∷_, _++_, append-assoc}
 use native.Mathlib.Omega.{arith}
@@ -17,12 +18,12 @@ use Rattle.header.specs.FirstOf.{firstOf}
 use Rattle.header.specs.HeaderTest.{CLEAN, INVALIDATED, DIRTY, headerTest}
 use Rattle.header.specs.Open.{userFields}
 use Rattle.header.proofs.Firsts.{first-none, fails}
-use Rattle.writing.specs.Write.{withField, withFields, sealed}
-use Rattle.writing.specs.State.{writingTests, cleanTest, generationTest, userTests, published, withUserData, setUserFieldsOf}
-use Rattle.writing.proofs.OneField.{Fits, apart}
+use Rattle.writing.specs.Write.{withField, withFields, sealed, unless}
+use Rattle.writing.specs.State.{writingTests, cleanTest, generationTest, userTests, published, inState, beginOf, checkpointOf, withUserData, setUserFieldsOf}
+use Rattle.writing.proofs.OneField.{Fits, apart, field-length, field-bytes}
 use Rattle.writing.proofs.FieldList.{Fitting, after, fields-length, fields-value}
 use Rattle.writing.proofs.Bytes.{Bytes, word-bound, bytes-word, value-bytes}
-use Rattle.writing.proofs.Seal.{seal-other}
+use Rattle.writing.proofs.Seal.{seal-bytes, seal-other}
 use Rattle.writing.proofs.Tests.{state-passed, header-holds, header-by-state}
 use Rattle.writing.proofs.Answers.{answers, accepted}
 use Rattle.writing.proofs.Roles.{writing-named, passed-header, passed-long, passed-even}
@@ -102,3 +103,36 @@ module _ (o : Options) (image : List ℕ) (bytes : Bytes image) (fields : UserFi
         ∙ ap (bytesOf 64) (valued F.user-data tt)
         ∙ rw size at (bytes-word (fields .«user_data») user-bytes) in
         rw (left, valued F.user-flags tt, data-bytes) refl
+
+-- user fields are their bytes
+pub same-user : (image image′ : List ℕ) → bytesIn image′ F.user-flags ≡ bytesIn image F.user-flags
+    → bytesIn image′ F.user-data ≡ bytesIn image F.user-data → userFields image′ ≡ userFields image
+unfolding userFields value
+same-user image image′ p q = λ i. record { «user_flags» = word (p i); «user_data» = q i }
+
+module _ (o : Options) (image : List ℕ) (long : 256 ≤ length image) where
+  -- a change of state alone
+  in-state-user : (state : ℕ) → userFields (inState image state) ≡ userFields image
+  unfolding inState
+  in-state-user state = go (eqb (value image F.state) state)
+    where
+      kept : (m : ℕ) → T (apart m F.header-crc32c) → T (apart m F.state) → bytesIn (sealed (withField image F.state state)) m ≡ bytesIn image m
+      kept m crc other =
+          seal-bytes (withField image F.state state) (rw (field-length image long F.state state) long) m crc
+          ∙ field-bytes image long F.state state m other
+
+      go : (t : Bool) → userFields (cond t image (sealed (withField image F.state state))) ≡ userFields image
+      go true = refl
+      go false = same-user image (sealed (withField image F.state state)) (kept F.user-flags tt tt) (kept F.user-data tt tt)
+
+  changed-user : (n state : ℕ) → userFields (unless n image (inState image state) .image) ≡ userFields image
+  changed-user zero state = in-state-user state
+  changed-user (suc n) state = refl
+
+  pub begin-user : userFields (beginOf o image .image) ≡ userFields image
+  unfolding beginOf
+  begin-user = changed-user (firstOf (writingTests o image)) DIRTY
+
+  pub checkpoint-user : userFields (checkpointOf o image .image) ≡ userFields image
+  unfolding checkpointOf
+  checkpoint-user = changed-user (firstOf (writingTests o image)) CLEAN
