@@ -3,13 +3,13 @@
 use Prim.Native.Nat.{ℕ, zero, suc}
 use mathlib.Core.Path.{_≡_, refl, sym, _∙_}
 use mathlib.Core.Bool.{Bool, true, false, cond}
+use mathlib.Core.Logic.{inr}
 use mathlib.Core.List.{List, [], _∷_, _++_}
-use native.Mathlib.Omega.{arith}
 use lib.Dec.{eqb}
 use lib.ListN.{length}
 use Rattle.header.specs.declared.options.Options.{Options}
 use Rattle.header.specs.declared.open.UserFields.{UserFields}
-use Rattle.header.specs.Answer.{done, busy, invalid-input}
+use Rattle.header.specs.Answer.{done, busy, full, out-of-order, invalid-input, too-short}
 use Rattle.header.specs.Fields as F
 use Rattle.header.specs.FirstOf.{firstOf}
 use Rattle.header.specs.HeaderTest.{CLEAN, INVALIDATED, DIRTY, test1, headerTests, headerTest, afterTest, shapeOf}
@@ -26,49 +26,53 @@ use Rattle.applying.specs.Apply.{committed}
 use Rattle.commit.specs.Commit.{soundTests, roomTests, furtherTests, commitTests, commitOf}
 use Rattle.host.specs.UserData.{setUserFieldsFrom}
 use Rattle.host.proofs.Failed.{after-failed}
-use Rattle.demands.specs.Demand1.{Numbered, Judges, LeavesAlone, Demand1}
+use Rattle.demands.specs.Demand1.{Among, headerNumbers, Judges, LeavesAlone, Demand1}
+use Rattle.demands.proofs.Belongs.{belongs}
 use Rattle.demands.proofs.Calls.{calls}
 use Rattle.demands.proofs.Exports.{exports}
-use Rattle.demands.proofs.Numbered.{first-numbered, header-numbered, header-judges, judges-behind, writes-judges}
+use Rattle.demands.proofs.Patterns.{wrong-pattern}
+use Rattle.demands.proofs.Numbered.{among, first-among, header-numbered, header-judges, judges-behind, writes-judges}
 use Rattle.demands.proofs.Reading.{open-reads, lookup-reads, check-reads, user-data-reads, scan-reads, match-reads}
 
-create-numbered : (o : Options) (buffer : List ℕ) → Numbered (createOf o buffer .answer)
+create-numbered : (o : Options) (buffer : List ℕ) → Among (done ∷ invalid-input ∷ too-short ∷ []) (createOf o buffer .answer)
 unfolding createOf createTests test1
-create-numbered o buffer = rw (answers buffer) (first-numbered (createTests o buffer) refl)
+create-numbered o buffer = rw (answers buffer) (first-among (done ∷ invalid-input ∷ too-short ∷ []) (createTests o buffer) refl refl)
 
 -- the tests of the other calls that write
-writing-judges : Judges (λ o image. firstOf (writingTests o image))
+writing-judges : Judges headerNumbers (λ o image. firstOf (writingTests o image))
 unfolding writingTests
 writing-judges =
     judges-behind headerTests (λ o image. (eqb (o .role) 1, busy) ∷ (eqb (o .role) 0, invalid-input) ∷ []) header-judges
-    (λ o image. refl)
+    refl (λ o image. refl)
 
-invalidating-judges : Judges (λ o image. firstOf (invalidateTests o image))
+invalidating-judges : Judges headerNumbers (λ o image. firstOf (invalidateTests o image))
 unfolding invalidateTests generationTest
-invalidating-judges = judges-behind writingTests (λ o. generationTest) writing-judges (λ o image. refl)
+invalidating-judges = judges-behind writingTests (λ o. generationTest) writing-judges refl (λ o image. refl)
 
-using-judges : Judges (λ o image. firstOf (userTests o image))
+using-judges : Judges headerNumbers (λ o image. firstOf (userTests o image))
 unfolding userTests cleanTest generationTest
 using-judges =
     judges-behind (λ o image. writingTests o image ++ cleanTest image) (λ o. generationTest)
-    (judges-behind writingTests (λ o. cleanTest) writing-judges (λ o image. refl)) (λ o image. refl)
+    (judges-behind writingTests (λ o. cleanTest) writing-judges refl (λ o image. refl)) refl (λ o image. refl)
 
-committing-judges : (batch : List ℕ) → Judges (λ o image. firstOf (commitTests o image batch))
+committing-judges : (batch : List ℕ) → Judges (full ∷ out-of-order ∷ headerNumbers) (λ o image. firstOf (commitTests o image batch))
 unfolding commitTests furtherTests soundTests roomTests
-committing-judges batch = judges-behind userTests (λ o image. furtherTests (shapeOf image) image batch) using-judges (λ o image. refl)
+committing-judges batch =
+    judges-behind userTests (λ o image. furtherTests (shapeOf image) image batch)
+    (record { numbered = λ o image. inr (inr (using-judges .numbered o image)); header = using-judges .header }) refl (λ o image. refl)
 
 commit-leaves : (o : Options) (image batch : List ℕ) → LeavesAlone image (commitOf o image batch)
 unfolding commitOf
 commit-leaves o image batch = refused image (committed (shapeOf image) image batch) (firstOf (commitTests o image batch))
 
-setting-judges : (fields : UserFields) → Judges (λ o image. setUserFieldsOf o image fields .answer)
+setting-judges : (fields : UserFields) → Judges headerNumbers (λ o image. setUserFieldsOf o image fields .answer)
 unfolding setUserFieldsOf
 setting-judges fields =
     writes-judges userTests
     (λ o image. published (withUserData image (fields .«user_data»)) ((F.user-flags, fields .«user_flags») ∷ [])) using-judges
 
 -- a number behind the header test
-numbered-after : (n m : ℕ) → Numbered n → Numbered m → Numbered (afterTest n m (λ k. k))
+numbered-after : (n m : ℕ) → Among headerNumbers n → Among headerNumbers m → Among headerNumbers (afterTest n m (λ k. k))
 numbered-after zero m p q = q
 numbered-after (suc n) m p q = p
 
@@ -82,11 +86,11 @@ module _ (flags : ℕ) (bytes : List ℕ) where
       cond right (setUserFieldsOf o image fields)
       (record { answer = afterTest (headerTest o image) invalid-input (λ n. n); image = image })
 
-  taken-judges : (right : Bool) → Judges (λ o image. taken right o image .answer)
+  taken-judges : (right : Bool) → Judges headerNumbers (λ o image. taken right o image .answer)
   taken-judges true = setting-judges fields
   taken-judges false =
       record {
-        numbered = λ o image. numbered-after (headerTest o image) invalid-input (header-numbered o image) (omega arith);
+        numbered = λ o image. numbered-after (headerTest o image) invalid-input (header-numbered o image) (among headerNumbers invalid-input refl);
         header = λ o image. after-failed invalid-input (λ n. n) (headerTest o image);
       }
 
@@ -94,7 +98,7 @@ module _ (flags : ℕ) (bytes : List ℕ) where
   taken-leaves true o image = user-refused o image fields
   taken-leaves false o image = λ h. refl
 
-  user-slice-judges : Judges (λ o image. setUserFieldsFrom o image flags bytes .answer)
+  user-slice-judges : Judges headerNumbers (λ o image. setUserFieldsFrom o image flags bytes .answer)
   unfolding setUserFieldsFrom
   user-slice-judges = taken-judges (eqb (length bytes) 64)
 
@@ -113,6 +117,7 @@ pub demand1 : Demand1
 unfolding beginOf checkpointOf invalidateOf commitOf
 demand1 =
     record {
+      belongs = belongs;
       calls = calls;
       exports = exports;
       create-judges = create-numbered;
@@ -144,4 +149,5 @@ demand1 =
       lookup-uncounted = λ o image key h. lookup-reads key .empty o image h .2;
       check-empty = check-reads .empty;
       wrong-length = wrong-length;
+      wrong-pattern = wrong-pattern;
     }

@@ -5,21 +5,27 @@ use mathlib.Core.Path.{_≡_, refl, sym, ap, _∙_}
 use mathlib.Core.Bool.{Bool, true, false}
 use mathlib.Core.Logic.{_↔_}
 use mathlib.Core.List.{List, [], _∷_, _++_}
-use mathlib.Core.Option.{some, none}
+use mathlib.Core.Option.{some}
 use native.Mathlib.Omega.{arith}
 use lib.Dec.{T}
 use lib.ListN.{length, drop}
 use Rattle.header.specs.declared.options.Options.{Options}
+use Rattle.header.specs.declared.open.UserFields.{UserFields}
 use Rattle.header.specs.declared.shape.Judged.the-variants.{Fit}
 use Rattle.header.specs.Fields as F
 use Rattle.header.specs.Fields.{value}
 use Rattle.header.specs.FirstOf.{firstOf}
 use Rattle.header.specs.HeaderTest.{CLEAN, headerTests, headerTest, shapeOf, judged, test1, test2, test3, test4, test5, test6, test7, test8, test9, test10, test11, test12}
+use Rattle.header.specs.Answer.{done}
+use Rattle.header.specs.Open.{openOf}
 use Rattle.header.specs.Sizes.{totalSize}
 use Rattle.header.proofs.Firsts.{named}
 use Rattle.header.proofs.Fit.{judged-fit, fit-key-size, fit-shaped}
+use Rattle.image.specs.Lookup.{lookupOf, indexPart}
 use Rattle.image.proofs.Places.{key-length}
 use Rattle.image.proofs.FullCheck.{Whole, passes-whole, whole-passes, full-check-law}
+use Rattle.listing.specs.Scan.{matches, list, scanOf}
+use Rattle.listing.specs.Match.{agrees, matchIn, matchOf}
 use Rattle.probing.proofs.Keys.{clash}
 use Rattle.writing.specs.Create.{createTests, freshFields, fresh, createOf}
 use Rattle.writing.specs.State.{writingTests, cleanTest, generationTest, userTests}
@@ -34,39 +40,98 @@ use Rattle.maps.proofs.MapSlots.{some-iff}
 use Rattle.maps.proofs.ReadsMap.{lookup-some, lookup-none}
 use Rattle.demands.specs.History.{Word, withRole, writer}
 use Rattle.demands.specs.Demand2.{ReadsBack, NoneHolds, Demand2}
+use Rattle.demands.specs.Listings.{RightPattern, Roomy, Lists, Piece}
+use Rattle.demands.specs.Shows.{Shows}
+use Rattle.demands.proofs.Belongs.{belongs}
 use Rattle.demands.proofs.Held.{Held, create-none, writer-header, checkpoint-done, begin-done, held}
-use Rattle.demands.proofs.Scanned.{lists-map, scanned}
+use Rattle.demands.proofs.Patterns.{right-taken}
+use Rattle.demands.proofs.Pieces.{pieces}
+use Rattle.demands.proofs.Scanned.{few, lists-map}
 
-module _ {o : Options} {image : List ℕ} {m : Map} (h : Held o image m) where
+-- scan and match where the header test passes, and match with a right pattern
+module _ (o : Options) (image : List ℕ) (z : headerTest o image ≡ 0) where
+  scan-list : (skip limit : ℕ) (numbers : List ℕ)
+      → scanOf o image skip limit numbers ≡ list (matches (shapeOf image) image (λ key. true)) skip limit numbers
+  unfolding scanOf
+  scan-list skip limit numbers = rw z refl
+
+  match-list : (offset bits : ℕ) (pattern : List ℕ) → RightPattern o offset bits pattern → (skip limit : ℕ) (numbers : List ℕ)
+      → matchOf o image offset bits pattern skip limit numbers
+      ≡ list (matches (shapeOf image) image (agrees offset bits pattern)) skip limit numbers
+  unfolding matchOf matchIn
+  match-list offset bits pattern right skip limit numbers = rw (z, right-taken o image z offset bits pattern right) refl
+
+  -- a listing against one that leaves none out
+  listed-piece : (wanted : List ℕ → Bool) (most : ℕ) (room : List ℕ) → Roomy o most room → (skip limit : ℕ) (numbers : List ℕ)
+      → Piece (list (matches (shapeOf image) image wanted) 0 most room) skip limit numbers
+      (list (matches (shapeOf image) image wanted) skip limit numbers)
+  listed-piece wanted most room roomy =
+      let fits = few o image z wanted in
+      pieces (matches (shapeOf image) image wanted) most room (omega (arith, fits, roomy .high)) (omega (arith, fits, roomy .long))
+
+  scanned-piece : (most : ℕ) (room : List ℕ) → Roomy o most room → (skip limit : ℕ) (numbers : List ℕ)
+      → Piece (scanOf o image 0 most room) skip limit numbers (scanOf o image skip limit numbers)
+  scanned-piece most room roomy skip limit numbers =
+      rw (scan-list 0 most room, scan-list skip limit numbers) (listed-piece (λ key. true) most room roomy skip limit numbers)
+
+  matched-piece : (offset bits : ℕ) (pattern : List ℕ) → RightPattern o offset bits pattern
+      → (most : ℕ) (room : List ℕ) → Roomy o most room → (skip limit : ℕ) (numbers : List ℕ)
+      → Piece (matchOf o image offset bits pattern 0 most room) skip limit numbers
+      (matchOf o image offset bits pattern skip limit numbers)
+  matched-piece offset bits pattern right most room roomy skip limit numbers =
+      rw (match-list offset bits pattern right 0 most room, match-list offset bits pattern right skip limit numbers)
+      (listed-piece (agrees offset bits pattern) most room roomy skip limit numbers)
+
+module _ {o : Options} {image : List ℕ} {m : Map} {fields : UserFields} (h : Held o image m fields) where
   pub writer-whole : Whole (writer o) image
   writer-whole = passes-whole (writer o) image (writer-header h) (h .passed)
 
   module _ (role : ℕ) (z : headerTest (withRole o role) image ≡ 0) where
-    whole : Whole (withRole o role) image
-    whole = passes-whole (withRole o role) image z (h .passed)
+    abbrev o′ : Options
+    o′ = withRole o role
+
+    whole : Whole o′ image
+    whole = passes-whole o′ image z (h .passed)
 
     mapped : (key : List ℕ) → mapOf (shapeOf image) image key ≡ m key
     mapped key = ap (λ (f : Map). f key) (h .map)
 
-    fit : judged (withRole o role) image ≡ Fit (shapeOf image)
-    fit = judged-fit (withRole o role) image z
+    fit : judged o′ image ≡ Fit (shapeOf image)
+    fit = judged-fit o′ image z
 
     -- a key of the map has the right length: it is a slot's
     key-sized : (key : List ℕ) (e : Entry) → m key ≡ some e → length key ≡ shapeOf image .«key_size»
     key-sized key e q =
         let s = shapeOf image in
         let has = some-iff s image (whole .sound) key e .0 (mapped key ∙ q) in
-        let shaped = fit-shaped (withRole o role) image s fit in
+        let shaped = fit-shaped o′ image s fit in
         ap length (sym (has .1 .key)) ∙ key-length s image shaped (has .0) (omega (arith, has .1 .below, shaped .highwater))
 
-    pub reads-back : ReadsBack (withRole o role) image m
+    -- a key of the map is looked up, and the slot that is then given shows it
+    looked : (key : List ℕ) (e : Entry) → m key ≡ some e
+        → (lookupOf o′ image key .answer ≡ done) × (lookupOf o′ image key .revision ≡ e .revision) × (indexPart o′ image key ≡ e .index)
+        × Shows o′ image (lookupOf o′ image key .slot) key e
+    looked key e q =
+        let l = lookup-some o′ image key z (key-sized key e q) (whole .sound) e (mapped key ∙ q) in
+        let same : record { revision = lookupOf o′ image key .revision; index = indexPart o′ image key } ≡ e =
+        λ i. record { revision = l .1 i; index = l .2 i } in
+        (l .0, l .1, l .2, rw same at (belongs o′ image key (l .0)))
+
+    listed : (wanted : List ℕ → Bool) (limit : ℕ) (numbers : List ℕ) → Roomy o′ limit numbers
+        → Lists o′ image m wanted (list (matches (shapeOf image) image wanted) 0 limit numbers)
+    listed wanted limit numbers roomy = rw (sym (h .map)) (lists-map o′ image z wanted (whole .sound) limit numbers roomy)
+
+    pub reads-back : ReadsBack o′ image m fields
+    unfolding openOf
     reads-back =
         record {
-          has = λ key e q. lookup-some (withRole o role) image key z (key-sized key e q) (whole .sound) e (mapped key ∙ q);
+          has = looked;
           lacks =
-              λ key size q. lookup-none (withRole o role) image key z (size ∙ sym (fit-key-size (withRole o role) image (shapeOf image) fit)) (whole .sound) (mapped key ∙ q) .0;
-          scans =
-              λ limit numbers high long. rw (scanned image (withRole o role) z limit numbers high long, sym (h .map)) (lists-map image (whole .sound) numbers);
+              λ key size q. lookup-none o′ image key z (size ∙ sym (fit-key-size o′ image (shapeOf image) fit)) (whole .sound) (mapped key ∙ q) .0;
+          scans = λ limit numbers roomy. rw (scan-list o′ image z 0 limit numbers) (listed (λ key. true) limit numbers roomy);
+          matches = λ offset bits pattern right limit numbers roomy.
+              rw (match-list o′ image z offset bits pattern right 0 limit numbers) (listed (agrees offset bits pattern) limit numbers roomy);
+          opens = rw (z, h .user) refl;
         }
 
 -- tests none of which gives 0 give 0 just where none holds
@@ -103,9 +168,11 @@ fresh-is-clean o buffer version a = fresh-value o buffer (create-none o buffer a
 pub demand2 : Demand2
 demand2 =
     record {
-      reads = λ o image m h role z. reads-back (held h) role z;
-      passes-dirty = λ o image m h. held h .dirty;
-      passes-clean = λ o image m h. held h .clean;
+      reads = λ h role z. reads-back (held h) role z;
+      scan-pieces = scanned-piece;
+      match-pieces = matched-piece;
+      passes-dirty = λ h. held h .dirty;
+      passes-clean = λ h. held h .clean;
       fresh-clean = fresh-is-clean;
       fresh-bytes = fresh-left;
       bytes = commit-left;
@@ -114,15 +181,15 @@ demand2 =
           λ o image batch.
           let iff = none-holds (commitTests o image batch) (commit-named o image batch) in
           (λ a. iff .0 (sym (commit-answers o image batch) ∙ a), λ n. commit-answers o image batch ∙ iff .1 n);
-      checks = λ o image m h. full-check-law (writer o) image .1 (writer-whole (held h));
+      checks = λ {o} {image} h. full-check-law (writer o) image .1 (writer-whole (held h));
       check-passes =
           λ o image.
           let law = full-check-law o image in
           (λ a. let w = law .0 a in (w .header, whole-passes o image w), λ p. law .1 (passes-whole o image (p .0) (p .1)));
-      begins = λ o image m h. begin-done (held h);
+      begins = λ h. begin-done (held h);
       checkpoints =
-          λ o image m h.
+          λ {o} {image} h.
           let done = checkpoint-done (held h) in
           (done, checkpoint-became (writer o) image (held h .bytes) done .in-state);
-      invalidates = λ o image m h a role low. invalidated-header (invalidate-became (writer o) image (held h .bytes) a) role low;
+      invalidates = λ {o} {image} h a role low. invalidated-header (invalidate-became (writer o) image (held h .bytes) a) role low;
     }

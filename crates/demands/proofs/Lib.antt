@@ -2,6 +2,7 @@ pub mod Demand1
 pub mod Demand2
 pub mod Demand3
 pub mod Examples
+pub mod Pins
 pub mod PastTotal
 pub mod Owing
 pub mod Calls
@@ -11,6 +12,10 @@ pub mod SameBytes
 pub mod SameReading
 pub mod Held
 pub mod Scanned
+pub mod Pieces
+pub mod Patterns
+pub mod Shown
+pub mod Belongs
 pub mod Ascending
 pub mod Reading
 pub mod Numbered

@@ -1,13 +1,13 @@
--- The calls of the story, computed.
+-- The calls of both stories, computed.
 -- Assumes nothing.
 use mathlib.Core.Path.{refl}
-use Rattle.numbers.specs.Bytes.{part, word, bytesOf, put, same, allZero}
+use Rattle.numbers.specs.Bytes.{part, word, bytesOf, put, same, below, allZero}
 use Rattle.digests.specs.Crc.{crcBit, crcBits, crcFrom, crc32c, headerCrc}
 use Rattle.digests.specs.Fnv.{fnvFrom, fnv1a64}
 use Rattle.probing.specs.Counting.{sumTo, countTo, allTo}
 use Rattle.probing.specs.Table.{liveCount, fullCount, tombstoneCount}
 use Rattle.probing.specs.Probe.{examine, probeFrom, probe}
-use Rattle.probing.specs.Check.{bucketsRight, metasRight, eachFound, countsEqual, checks}
+use Rattle.probing.specs.Check.{bucketsRight, metasRight, eachFound, countsEqual, neverFall, checks}
 use Rattle.probing.specs.Change.{placeFrom, place}
 use Rattle.header.specs.Fields.{bytesIn, value}
 use Rattle.header.specs.FirstOf.{firstOf}
@@ -15,20 +15,26 @@ use Rattle.header.specs.Sizes.{sizesAllowed, align8, slotSize, powerFrom, bucke
 use Rattle.header.specs.HeaderTest.{powerOfTwo, test1, test2, test3, test4, test5, test6, test7, test8, test9, test10, test11, test12, headerTests, headerTest, shapeOf}
 use Rattle.image.specs.Table as T
 use Rattle.image.specs.Table.{slotAt, bucketAt, metaOf, keyOf, bucketFrom, bucketOf, tableOf}
-use Rattle.image.specs.Lookup.{probeOf}
+use Rattle.image.specs.Lookup.{probeOf, lookupIn, lookupOf}
 use Rattle.image.specs.Check.{passes}
 use Rattle.writing.specs.Write.{withField, withFields, sealed}
 use Rattle.writing.specs.Create.{createTests, freshFields, fresh, createOf}
-use Rattle.writing.specs.State.{writingTests, cleanTest, generationTest, inState, beginOf, checkpointOf, published, userTests}
-use Rattle.slots.specs.Slots.{removed, indexed, appended, counted}
+use Rattle.writing.specs.State.{writingTests, cleanTest, generationTest, inState, beginOf, checkpointOf, published, invalidateTests, invalidateOf, userTests, withUserData, setUserFieldsOf}
+use Rattle.slots.specs.Slots.{removed, indexed, appended, rebuiltTo, rebuilt, counted}
 use Rattle.batch.specs.Batch.{recordCount, recordAt, metaIn, keyIn, keyPadding, revisionAndIndex, indexPadding, malformed, someMalformed, batchWrong, keyAt, decides}
 use Rattle.batch.specs.News.{isNew, newCount, rank, firstTo, newAt}
 use Rattle.applying.specs.Apply.{acted, afterLive, withCounters, withSlots, afterNew, tidied, recounted, settled, committed}
 use Rattle.commit.specs.Commit.{fallsBehind, soundTests, roomTests, furtherTests, commitTests, commitOf}
 use Rattle.demands.specs.Story.{Steps}
+use Rattle.demands.specs.OrderedStory.{OrderedSteps}
+
+-- all that is computed with
+computed : Unit {0}
+unfolding part word bytesOf put same allZero crcBit crcBits crcFrom crc32c headerCrc fnvFrom fnv1a64 sumTo countTo allTo liveCount fullCount tombstoneCount examine probeFrom probe bucketsRight metasRight eachFound countsEqual checks placeFrom place bytesIn value firstOf sizesAllowed align8 slotSize powerFrom bucketCount bucketsOffset totalSize powerOfTwo test1 test2 test3 test4 test5 test6 test7 test8 test9 test10 test11 test12 headerTests headerTest shapeOf slotAt T.keyAt bucketAt metaOf keyOf bucketFrom bucketOf tableOf probeOf passes withField withFields sealed createTests freshFields fresh createOf writingTests cleanTest generationTest inState beginOf checkpointOf published userTests removed indexed appended counted recordCount recordAt metaIn keyIn keyPadding revisionAndIndex indexPadding malformed someMalformed batchWrong keyAt decides isNew newCount rank firstTo newAt fallsBehind soundTests roomTests furtherTests commitTests acted afterLive withCounters withSlots afterNew tidied recounted settled committed commitOf invalidateTests invalidateOf withUserData setUserFieldsOf rebuiltTo rebuilt neverFall below lookupIn lookupOf
+computed = tt
 
 pub steps : Steps
-unfolding part word bytesOf put same allZero crcBit crcBits crcFrom crc32c headerCrc fnvFrom fnv1a64 sumTo countTo allTo liveCount fullCount tombstoneCount examine probeFrom probe bucketsRight metasRight eachFound countsEqual checks placeFrom place bytesIn value firstOf sizesAllowed align8 slotSize powerFrom bucketCount bucketsOffset totalSize powerOfTwo test1 test2 test3 test4 test5 test6 test7 test8 test9 test10 test11 test12 headerTests headerTest shapeOf slotAt T.keyAt bucketAt metaOf keyOf bucketFrom bucketOf tableOf probeOf passes withField withFields sealed createTests freshFields fresh createOf writingTests cleanTest generationTest inState beginOf checkpointOf published userTests removed indexed appended counted recordCount recordAt metaIn keyIn keyPadding revisionAndIndex indexPadding malformed someMalformed batchWrong keyAt decides isNew newCount rank firstTo newAt fallsBehind soundTests roomTests furtherTests commitTests acted afterLive withCounters withSlots afterNew tidied recounted settled committed commitOf
+unfolding computed
 steps =
     record {
       home-64 = refl;
@@ -37,10 +43,36 @@ steps =
       creates = refl;
       begins = refl;
       puts = refl;
+      marks = refl;
       deletes = refl;
       puts-again = refl;
       refuses = refl;
       closes = refl;
       writer-passes = refl;
       reader-passes = refl;
+      invalidates = refl;
+      given-up = refl;
+    }
+
+pub ordered-steps : OrderedSteps
+unfolding computed
+ordered-steps =
+    record {
+      hash-1 = refl;
+      hash-2 = refl;
+      home-1 = refl;
+      home-2 = refl;
+      creates = refl;
+      begins = refl;
+      puts = refl;
+      deletes = refl;
+      refuses-order = refl;
+      puts-last = refl;
+      refuses-full = refl;
+      rebuilds = refl;
+      closes = refl;
+      writer-passes = refl;
+      reader-passes = refl;
+      two-buckets = refl;
+      one-bucket = refl;
     }

@@ -1,30 +1,36 @@
--- The story as a history, and what lookup then answers, by demand 2.
+-- The stories as histories, and what lookup and open check then answer, by demand 2.
 -- Assumes nothing.
 use Prim.Native.Nat.{ℕ}
 use mathlib.Core.Path.{_≡_, refl, ap, subst}
-use mathlib.Core.List.{List, [], _∷_}
+use mathlib.Core.List.{List, [], _∷_, _++_}
 use native.Mathlib.Omega.{arith}
 use lib.Dec.{lit<}
 use lib.IntN.{pos, negsuc}
 use lib.ListN.{replicate}
 use Rattle.numbers.specs.Bytes.{part, word, bytesOf, same}
 use Rattle.numbers.specs.Signed.{signed}
+use Rattle.header.specs.declared.options.Options.{Options}
+use Rattle.header.specs.declared.open.UserFields.{UserFields}
 use Rattle.header.specs.Answer.{done}
 use Rattle.header.specs.Fields.{bytesIn, value}
 use Rattle.header.specs.HeaderTest.{shapeOf}
+use Rattle.header.specs.Open.{noFields, openOf}
 use Rattle.header.specs.Sizes.{align8}
 use Rattle.writing.specs.Write.{Written}
 use Rattle.writing.proofs.Bytes.{append-bytes, bytes-of-bytes}
-use Rattle.slots.specs.Slots.{all-ones}
 use Rattle.batch.specs.Batch.{recordCount, recordAt, metaIn, keyIn}
 use Rattle.commit.specs.Commit.{commitOf}
 use Rattle.maps.specs.Map.{Map, entryIn, actsOn, appliedTo, applied}
 use Rattle.demands.specs.Demand2.{ReadsBack}
-use Rattle.demands.specs.History.{Bytes, withRole, emptyMap, History, created, begun, committed, refused, checkpointed}
+use Rattle.demands.specs.History.{Bytes, writer, emptyMap, History, created, begun, checkpointed, marked, committed, commit-refused}
+use Rattle.demands.specs.Literal.{words, slot, tombstone}
 use Rattle.demands.specs.Owes.{written}
-use Rattle.demands.specs.Story.{Story, options, words, slot, minus-three, batch1, batch2, batch3, batch4, buffer, image1, image2, image3, image4, image5, map2, map3, map4}
+use Rattle.demands.specs.Story as S
+use Rattle.demands.specs.Story.{Story}
+use Rattle.demands.specs.OrderedStory as O
+use Rattle.demands.specs.OrderedStory.{OrderedStory}
 use Rattle.demands.proofs.Demand2.{demand2}
-use Rattle.demands.proofs.Steps.{steps}
+use Rattle.demands.proofs.Steps.{steps, ordered-steps}
 
 words-bytes : (width : ℕ) (xs : List ℕ) → Bytes (words width xs)
 words-bytes width [] = λ i. lit< tt
@@ -36,52 +42,114 @@ slot-bytes meta key revision index = words-bytes 8 (meta ∷ key ∷ revision �
 answers : {x y : Written} → x ≡ y → x .answer ≡ y .answer
 answers e = ap (λ (x : Written). x .answer) e
 
--- a history goes on to the image that its last call is known to leave
-leaves : {m : Map} {x y : Written} → x ≡ y → History options (x .image) m → History options (y .image) m
-leaves {m} e h = subst (λ (x : Written). History options (x .image) m) e h
+module _ {o : Options} where
+  -- a history goes on to the image that its last call is known to leave
+  leaves : {m : Map} {fields : UserFields} {x y : Written} → x ≡ y → History o (x .image) m fields → History o (y .image) m fields
+  leaves {m} {fields} e h = subst (λ (x : Written). History o (x .image) m fields) e h
 
-commits : {image after : List ℕ} {m : Map} (batch : List ℕ) → Bytes batch → commitOf options image batch ≡ written done after
-    → History options image m → History options after (applied (shapeOf image) batch m)
-commits batch b e h = leaves e (committed batch b h (answers e))
+  commits : {image after : List ℕ} {m : Map} {fields : UserFields} (batch : List ℕ) → Bytes batch
+      → commitOf (writer o) image batch ≡ written done after → History o image m fields
+      → History o after (applied (shapeOf image) batch m) fields
+  commits batch b e h = leaves e (committed batch b h (answers e))
 
-history1 : History options image1 emptyMap
+history1 : History S.options S.image1 emptyMap noFields
 history1 =
-    let fresh = created 2 buffer (lit< tt) (words-bytes 8 (replicate 60 all-ones)) (answers (steps .creates)) in
+    let fresh = created 2 S.buffer (lit< tt) (words-bytes 8 (replicate 60 tombstone)) (answers (steps .creates)) in
     leaves (steps .begins) (begun (leaves (steps .creates) fresh))
 
-history2 : History options image2 map2
+history2 : History S.options S.image2 S.map2 noFields
 history2 =
-    let bytes = append-bytes (slot 1 64 1 10) (slot 1 72 2 20) (slot-bytes 1 64 1 10) (slot-bytes 1 72 2 20) in
-    commits batch1 bytes (steps .puts) history1
+    let bytes = append-bytes (slot 1 72 2 20) (slot 1 64 1 10) (slot-bytes 1 72 2 20) (slot-bytes 1 64 1 10) in
+    commits S.batch1 bytes (steps .puts) history1
 
-history3 : History options image3 map3
-history3 = commits batch2 (slot-bytes 0 64 0 0) (steps .deletes) history2
+history3 : History S.options S.image3 S.map2 S.fields
+unfolding bytesOf
+history3 =
+    leaves (steps .marks)
+    (marked S.fields (record { flags = lit< tt; size = refl; bytes = words-bytes 8 S.eights }) history2 (answers (steps .marks)))
 
-history4 : History options image4 map4
-history4 = commits batch3 (slot-bytes 1 64 minus-three 30) (steps .puts-again) history3
+history4 : History S.options S.image4 S.map4 S.fields
+history4 = commits S.batch2 (slot-bytes 0 72 0 0) (steps .deletes) history3
 
-history5 : History options image5 map4
-history5 =
+history5 : History S.options S.image5 S.map5 S.fields
+history5 = commits S.batch3 (slot-bytes 1 72 S.minus-three 30) (steps .puts-again) history4
+
+history6 : History S.options S.image6 S.map5 S.fields
+history6 =
     let answer = answers (steps .refuses) in
-    let unchanged = leaves (steps .refuses) (refused batch4 history4 (λ a. omega (arith, a))) in
+    let unchanged = leaves (steps .refuses) (commit-refused S.batch4 history5 (λ a. omega (arith, a))) in
     leaves (steps .closes) (checkpointed unchanged)
 
-during : ReadsBack options image3 map3
-during = demand2 .reads options image3 map3 history3 2 (steps .writer-passes)
+during : ReadsBack S.options S.image4 S.map4 S.fields
+during = demand2 .reads history4 2 (steps .writer-passes)
 
-at-the-end : ReadsBack (withRole options 0) image5 map4
-at-the-end = demand2 .reads options image5 map4 history5 0 (steps .reader-passes)
+at-the-end : ReadsBack S.reader S.image6 S.map5 S.fields
+at-the-end = demand2 .reads history6 0 (steps .reader-passes)
+
+-- a map that batches made, read at a key
+read : Unit {0}
+unfolding applied appliedTo actsOn entryIn recordCount recordAt metaIn keyIn shapeOf value bytesIn part word bytesOf same signed align8
+read = tt
 
 pub story : Story
-unfolding applied appliedTo actsOn entryIn recordCount recordAt metaIn keyIn shapeOf value bytesIn part word bytesOf same signed align8
+unfolding read openOf
 story =
     record {
       steps = steps;
-      history3 = history3;
-      deleted = during .lacks (64 ∷ []) refl refl;
-      behind = during .has (72 ∷ []) (record { revision = pos 2; index = 20 ∷ [] }) refl;
-      history = history5;
-      again = at-the-end .has (64 ∷ []) (record { revision = negsuc 2; index = 30 ∷ [] }) refl;
-      collided = at-the-end .has (72 ∷ []) (record { revision = pos 2; index = 20 ∷ [] }) refl;
+      history4 = history4;
+      deleted = during .lacks (72 ∷ []) refl refl;
+      behind = during .has (64 ∷ []) (record { revision = pos 1; index = 10 ∷ [] }) refl;
+      history = history6;
+      again = at-the-end .has (72 ∷ []) (record { revision = negsuc 2; index = 30 ∷ [] }) refl;
+      collided = at-the-end .has (64 ∷ []) (record { revision = pos 1; index = 10 ∷ [] }) refl;
       never = at-the-end .lacks (80 ∷ []) refl refl;
+      opens = at-the-end .opens;
+      closed = rw (steps .given-up) refl;
+    }
+
+ordered1 : History O.options O.image1 emptyMap noFields
+ordered1 =
+    let fresh = created 2 O.buffer (lit< tt) (words-bytes 8 (replicate 64 tombstone)) (answers (ordered-steps .creates)) in
+    leaves (ordered-steps .begins) (begun (leaves (ordered-steps .creates) fresh))
+
+ordered2 : History O.options O.image2 O.map2 noFields
+ordered2 =
+    let two = append-bytes (slot 1 O.key3 3 30) (slot 1 O.key2 2 20) (slot-bytes 1 O.key3 3 30) (slot-bytes 1 O.key2 2 20) in
+    commits O.batch1 (append-bytes (slot 1 O.key3 3 30 ++ slot 1 O.key2 2 20) (slot 1 O.key1 1 10) two (slot-bytes 1 O.key1 1 10))
+    (ordered-steps .puts) ordered1
+
+ordered3 : History O.options O.image3 O.map3 noFields
+ordered3 = commits O.batch2 (slot-bytes 0 O.key3 0 0) (ordered-steps .deletes) ordered2
+
+ordered4 : History O.options O.image4 O.map4 noFields
+ordered4 =
+    let answer = answers (ordered-steps .refuses-order) in
+    let unchanged = leaves (ordered-steps .refuses-order) (commit-refused O.below-tail ordered3 (λ a. omega (arith, a))) in
+    let bytes = append-bytes (slot 0 O.key1 0 0) (slot 1 O.key4 4 40) (slot-bytes 0 O.key1 0 0) (slot-bytes 1 O.key4 4 40) in
+    commits O.batch3 bytes (ordered-steps .puts-last) unchanged
+
+ordered6 : History O.options O.image6 O.map5 noFields
+ordered6 =
+    let answer = answers (ordered-steps .refuses-full) in
+    let unchanged = leaves (ordered-steps .refuses-full) (commit-refused O.one-more ordered4 (λ a. omega (arith, a))) in
+    leaves (ordered-steps .closes) (checkpointed (commits O.batch4 (slot-bytes 0 O.key4 0 0) (ordered-steps .rebuilds) unchanged))
+
+before-rebuild : ReadsBack O.options O.image4 O.map4 noFields
+before-rebuild = demand2 .reads ordered4 2 (ordered-steps .writer-passes)
+
+after-rebuild : ReadsBack O.reader O.image6 O.map5 noFields
+after-rebuild = demand2 .reads ordered6 0 (ordered-steps .reader-passes)
+
+pub ordered-story : OrderedStory
+unfolding read
+ordered-story =
+    record {
+      steps = ordered-steps;
+      history4 = ordered4;
+      last = before-rebuild .has (0x80 ∷ 0x08 ∷ []) (record { revision = pos 4; index = 40 ∷ [] }) refl;
+      never = before-rebuild .lacks (0x80 ∷ 0x01 ∷ []) refl refl;
+      history = ordered6;
+      lasting = after-rebuild .has (0x7F ∷ 0x03 ∷ []) (record { revision = pos 2; index = 20 ∷ [] }) refl;
+      first-gone = after-rebuild .lacks (0x01 ∷ 0x09 ∷ []) refl refl;
+      last-gone = after-rebuild .lacks (0x80 ∷ 0x08 ∷ []) refl refl;
     }

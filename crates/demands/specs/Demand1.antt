@@ -1,14 +1,15 @@
 -- "1. Any bytes may be lent as image, key or batch. Every call ends, stays inside what it was lent, and refuses bad input by
 -- the numbers in document 01. A refused call changes no byte. A key of the wrong length is refused, never cut or padded."
 -- Assumes nothing.
-use Prim.Native.Nat.{ℕ, _≤_}
+use Prim.Native.Nat.{ℕ}
 use mathlib.Core.Path.{_≡_}
-use mathlib.Core.List.{List, []}
+use mathlib.Core.Logic.{_⊎_}
+use mathlib.Core.List.{List, [], _∷_}
 use lib.IntN.{pos}
 use lib.ListN.{length}
 use Rattle.header.specs.declared.options.Options.{Options}
 use Rattle.header.specs.declared.open.UserFields.{UserFields}
-use Rattle.header.specs.Answer.{done, invalid-input, not-present}
+use Rattle.header.specs.Answer.{done, needs-rebuild, incompatible, invalidated, busy, full, out-of-order, invalid-input, not-present, create-it, too-short}
 use Rattle.header.specs.HeaderTest.{headerTest}
 use Rattle.header.specs.Open.{noFields, openOf}
 use Rattle.image.specs.Lookup.{nothing, lookupOf, indexPart}
@@ -22,19 +23,27 @@ use Rattle.commit.specs.Commit.{commitOf}
 use Rattle.host.specs.UserData.{userDataOf, setUserFieldsFrom}
 use Rattle.demands.specs.Calls.{Calls}
 use Rattle.demands.specs.Exports.{Exports}
+use Rattle.demands.specs.Listings.{RightPattern}
+use Rattle.demands.specs.Shows.{Shows}
 
--- "Numbers given back": 0 to 11; "8 is unused"
-abbrev pub Numbered : ℕ → Type 0
-Numbered n = (n ≤ 11) × (n ≡ 8 → ⊥)
+-- a number that stands in a list of numbers
+abbrev pub Among : List ℕ → ℕ → Type 0
+Among [] n = ⊥
+Among (x ∷ xs) n = (n ≡ x) ⊎ Among xs n
+
+-- "Numbers given back": what the header test can answer, and so every call that makes it
+abbrev pub headerNumbers : List ℕ
+headerNumbers =
+    done ∷ needs-rebuild ∷ incompatible ∷ invalidated ∷ busy ∷ invalid-input ∷ create-it ∷ []
 
 -- "refuses": another number than 0
 abbrev pub Refuses : ℕ → Type 0
 Refuses answer = answer ≡ done → ⊥
 
--- What a call answers on an image: one of document 01's numbers; and where the header test refuses, that test's number:
--- "Every call but create and revision age makes this test first."
-pub record Judges (answer : Options → List ℕ → ℕ) : Type 0 where
-  pub numbered : (o : Options) (image : List ℕ) → Numbered (answer o image)
+-- What a call answers on an image: one of the numbers listed; and where the header test refuses, that test's number: "Every
+-- call but create and revision age makes this test first."
+pub record Judges (numbers : List ℕ) (answer : Options → List ℕ → ℕ) : Type 0 where
+  pub numbered : (o : Options) (image : List ℕ) → Among numbers (answer o image)
   pub header : (o : Options) (image : List ℕ) → Refuses (headerTest o image) → answer o image ≡ headerTest o image
 
 -- "Any number but 0 leaves every lent byte alone"
@@ -46,24 +55,33 @@ abbrev pub ListsNothing : List ℕ → Outcome → Type 0
 ListsNothing numbers x = Refuses (x .listed .answer) → x ≡ refused numbers (x .listed .answer)
 
 pub record Demand1 : Type 2 where
+  -- "it can't promise that the record it hands back belongs to the serial that was asked for": whatever the image, where
+  -- lookup answers 0 its slot shows the key that was asked for, with the revision and the index bytes that lookup gives
+  pub belongs : (o : Options) (image key : List ℕ) → lookupOf o image key .answer ≡ done
+      → Shows o image (lookupOf o image key .slot) key
+      (record { revision = lookupOf o image key .revision; index = indexPart o image key })
   -- "Any bytes may be lent as image, key or batch. Every call ends, stays inside what it was lent"
   pub calls : Calls
   pub exports : Exports
-  -- "and refuses bad input by the numbers in document 01"
-  pub create-judges : (o : Options) (buffer : List ℕ) → Numbered (createOf o buffer .answer)
-  pub open-judges : Judges (λ o image. openOf o image .answer)
-  pub user-data-judges : (out : List ℕ) → Judges (λ o image. userDataOf o image out .answer)
-  pub begin-judges : Judges (λ o image. beginOf o image .answer)
-  pub commit-judges : (batch : List ℕ) → Judges (λ o image. commitOf o image batch .answer)
-  pub checkpoint-judges : Judges (λ o image. checkpointOf o image .answer)
-  pub invalidate-judges : Judges (λ o image. invalidateOf o image .answer)
-  pub user-judges : (fields : UserFields) → Judges (λ o image. setUserFieldsOf o image fields .answer)
-  pub user-slice-judges : (flags : ℕ) (bytes : List ℕ) → Judges (λ o image. setUserFieldsFrom o image flags bytes .answer)
-  pub lookup-judges : (key : List ℕ) → Judges (λ o image. lookupOf o image key .answer)
-  pub scan-judges : (skip limit : ℕ) (numbers : List ℕ) → Judges (λ o image. scanOf o image skip limit numbers .listed .answer)
+  -- "and refuses bad input by the numbers in document 01": for each call, those that it can answer
+  pub create-judges : (o : Options) (buffer : List ℕ)
+      → Among (done ∷ invalid-input ∷ too-short ∷ []) (createOf o buffer .answer)
+  pub open-judges : Judges headerNumbers (λ o image. openOf o image .answer)
+  pub user-data-judges : (out : List ℕ) → Judges (too-short ∷ headerNumbers) (λ o image. userDataOf o image out .answer)
+  pub begin-judges : Judges headerNumbers (λ o image. beginOf o image .answer)
+  pub commit-judges : (batch : List ℕ)
+      → Judges (full ∷ out-of-order ∷ headerNumbers) (λ o image. commitOf o image batch .answer)
+  pub checkpoint-judges : Judges headerNumbers (λ o image. checkpointOf o image .answer)
+  pub invalidate-judges : Judges headerNumbers (λ o image. invalidateOf o image .answer)
+  pub user-judges : (fields : UserFields) → Judges headerNumbers (λ o image. setUserFieldsOf o image fields .answer)
+  pub user-slice-judges : (flags : ℕ) (bytes : List ℕ)
+      → Judges headerNumbers (λ o image. setUserFieldsFrom o image flags bytes .answer)
+  pub lookup-judges : (key : List ℕ) → Judges (not-present ∷ headerNumbers) (λ o image. lookupOf o image key .answer)
+  pub scan-judges : (skip limit : ℕ) (numbers : List ℕ)
+      → Judges (too-short ∷ headerNumbers) (λ o image. scanOf o image skip limit numbers .listed .answer)
   pub match-judges : (offset bits : ℕ) (pattern : List ℕ) (skip limit : ℕ) (numbers : List ℕ)
-      → Judges (λ o image. matchOf o image offset bits pattern skip limit numbers .listed .answer)
-  pub check-judges : Judges (λ o image. checkOf o image .answer)
+      → Judges (too-short ∷ headerNumbers) (λ o image. matchOf o image offset bits pattern skip limit numbers .listed .answer)
+  pub check-judges : Judges headerNumbers (λ o image. checkOf o image .answer)
   -- "A refused call changes no byte."
   pub create-leaves : (o : Options) (buffer : List ℕ) → LeavesAlone buffer (createOf o buffer)
   pub begin-leaves : (o : Options) (image : List ℕ) → LeavesAlone image (beginOf o image)
@@ -91,3 +109,7 @@ pub record Demand1 : Type 2 where
   -- "A key of the wrong length is refused, never cut or padded."
   pub wrong-length : (o : Options) (image key : List ℕ) → headerTest o image ≡ done → (length key ≡ o .«key_size» → ⊥)
       → lookupOf o image key ≡ nothing invalid-input
+  -- "7 if bits is 0, the pattern's length differs, or it runs past the key"
+  pub wrong-pattern : (o : Options) (image : List ℕ) (offset bits : ℕ) (pattern : List ℕ) (skip limit : ℕ) (numbers : List ℕ)
+      → headerTest o image ≡ done → (RightPattern o offset bits pattern → ⊥)
+      → matchOf o image offset bits pattern skip limit numbers ≡ refused numbers invalid-input

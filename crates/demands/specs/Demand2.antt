@@ -3,59 +3,51 @@
 -- commit is refused only for the listed reasons, and always then. The writer's full check passes on the fresh image, after
 -- begin and after each accepted commit."
 -- Assumes nothing.
-use Prim.Native.Nat.{ℕ, _≤_, _<_}
+use Prim.Native.Nat.{ℕ, _≤_}
 use mathlib.Core.Path.{_≡_}
 use mathlib.Core.Bool.{Bool, true, false}
 use mathlib.Core.Logic.{_↔_}
 use mathlib.Core.List.{List, [], _∷_, _++_}
 use mathlib.Core.Option.{some, none}
-use lib.ListN.{length, getD, drop}
+use lib.ListN.{length, drop}
 use Rattle.header.specs.declared.options.Options.{Options}
+use Rattle.header.specs.declared.open.UserFields.{UserFields}
 use Rattle.header.specs.Answer.{done, invalidated, not-present}
 use Rattle.header.specs.Fields as F
 use Rattle.header.specs.Fields.{value}
 use Rattle.header.specs.FirstOf.{firstOf}
 use Rattle.header.specs.HeaderTest.{CLEAN, headerTest, shapeOf}
+use Rattle.header.specs.Open.{openOf}
 use Rattle.header.specs.Sizes.{totalSize}
-use Rattle.image.specs.Table.{keyOf, revisionOf, indexOf}
 use Rattle.image.specs.Lookup.{lookupOf, indexPart}
 use Rattle.image.specs.Check.{passes, checkOf}
-use Rattle.listing.specs.Scan.{Outcome, scanOf}
+use Rattle.listing.specs.Scan.{scanOf}
+use Rattle.listing.specs.Match.{agrees, matchOf}
 use Rattle.writing.specs.Create.{fresh, createOf}
 use Rattle.writing.specs.State.{beginOf, checkpointOf, invalidateOf}
 use Rattle.applying.specs.Apply.{committed}
 use Rattle.commit.specs.Commit.{commitTests, commitOf}
 use Rattle.maps.specs.Map.{Entry, Map}
 use Rattle.demands.specs.History.{Word, withRole, writer, History}
-
--- what slot n shows
-abbrev pub shown : List ℕ → ℕ → Entry
-shown image n = record { revision = revisionOf (shapeOf image) image n; index = indexOf (shapeOf image) image n }
-
--- the key in the slot of entry i of a list
-abbrev pub keyListed : List ℕ → Outcome → ℕ → List ℕ
-keyListed image x i = keyOf (shapeOf image) image (getD (x .numbers) i 0)
-
--- A scan gives each key of the map exactly once, its slot showing that key, revision and index, and nothing else.
-pub record Lists (image : List ℕ) (m : Map) (x : Outcome) : Type 0 where
-  pub answers : x .listed .answer ≡ done
-  pub all : x .listed .written ≡ x .listed .total
-  pub each : (i : ℕ) → i < x .listed .written → m (keyListed image x i) ≡ some (shown image (getD (x .numbers) i 0))
-  pub every : (key : List ℕ) (entry : Entry) → m key ≡ some entry
-      → (i : ℕ) × ((i < x .listed .written) × (keyListed image x i ≡ key))
-  pub once : (i j : ℕ) → i < x .listed .written → j < x .listed .written → keyListed image x i ≡ keyListed image x j → i ≡ j
+use Rattle.demands.specs.Listings.{RightPattern, Roomy, Lists, Piece}
+use Rattle.demands.specs.Shows.{Shows}
 
 -- "lookup and scan read back exactly that map"
-pub record ReadsBack (o : Options) (image : List ℕ) (m : Map) : Type 0 where
-  -- a key that the map has: 0, with its revision and index
-  pub has : (key : List ℕ) (entry : Entry) → m key ≡ some entry
-      → (lookupOf o image key .answer ≡ done) × (lookupOf o image key .revision ≡ entry .revision)
-      × (indexPart o image key ≡ entry .index)
+pub record ReadsBack (o : Options) (image : List ℕ) (m : Map) (fields : UserFields) : Type 0 where
+  -- a key that the map has: 0, with its revision and index, in a slot that shows them and the key
+  pub has : (key : List ℕ) (e : Entry) → m key ≡ some e
+      → (lookupOf o image key .answer ≡ done) × (lookupOf o image key .revision ≡ e .revision)
+      × (indexPart o image key ≡ e .index) × Shows o image (lookupOf o image key .slot) key e
   -- any other key of the right length: 9
   pub lacks : (key : List ℕ) → length key ≡ o .«key_size» → m key ≡ none → lookupOf o image key .answer ≡ not-present
-  -- a scan from the first, with a limit and a list that are large enough
-  pub scans : (limit : ℕ) (numbers : List ℕ) → o .«slot_capacity» ≤ limit → o .«slot_capacity» ≤ length numbers
-      → Lists image m (scanOf o image 0 limit numbers)
+  -- a scan from the first lists the map, and a match those of its keys that agree with the pattern
+  pub scans : (limit : ℕ) (numbers : List ℕ) → Roomy o limit numbers
+      → Lists o image m (λ key. true) (scanOf o image 0 limit numbers)
+  pub matches : (offset bits : ℕ) (pattern : List ℕ) → RightPattern o offset bits pattern → (limit : ℕ) (numbers : List ℕ)
+      → Roomy o limit numbers
+      → Lists o image m (agrees offset bits pattern) (matchOf o image offset bits pattern 0 limit numbers)
+  -- "Open check ... with 0 it hands out the user fields"
+  pub opens : openOf o image ≡ record { answer = done; fields = fields }
 
 -- no test of a list holds
 abbrev pub NoneHolds : List (Bool × ℕ) → Type 0
@@ -64,16 +56,26 @@ NoneHolds (t ∷ ts) = (t .0 ≡ false) × NoneHolds ts
 
 pub record Demand2 : Type 0 where
   -- "Where the header test passes, lookup and scan read back exactly that map": for any role
-  pub reads : (o : Options) (image : List ℕ) (m : Map) → History o image m → (role : ℕ)
-      → headerTest (withRole o role) image ≡ done → ReadsBack (withRole o role) image m
-  -- It passes for the writer and beside a writer, and for every role where the image is CLEAN, as a fresh one is.
-  pub passes-dirty : (o : Options) (image : List ℕ) (m : Map) → History o image m → (role : ℕ) → role ≤ 2 → (role ≡ 0 → ⊥)
-      → headerTest (withRole o role) image ≡ done
-  pub passes-clean : (o : Options) (image : List ℕ) (m : Map) → History o image m → value image F.state ≡ CLEAN
-      → (role : ℕ) → role ≤ 2 → headerTest (withRole o role) image ≡ done
+  pub reads : {o : Options} {image : List ℕ} {m : Map} {fields : UserFields} → History o image m fields → (role : ℕ)
+      → headerTest (withRole o role) image ≡ done → ReadsBack (withRole o role) image m fields
+  -- with any skip, limit and list, on any image that passes the header test, scan and match give pieces of what they list so
+  pub scan-pieces : (o : Options) (image : List ℕ) → headerTest o image ≡ done
+      → (most : ℕ) (list : List ℕ) → Roomy o most list → (skip limit : ℕ) (numbers : List ℕ)
+      → Piece (scanOf o image 0 most list) skip limit numbers (scanOf o image skip limit numbers)
+  pub match-pieces : (o : Options) (image : List ℕ) → headerTest o image ≡ done
+      → (offset bits : ℕ) (pattern : List ℕ) → RightPattern o offset bits pattern
+      → (most : ℕ) (list : List ℕ) → Roomy o most list → (skip limit : ℕ) (numbers : List ℕ)
+      → Piece (matchOf o image offset bits pattern 0 most list) skip limit numbers
+      (matchOf o image offset bits pattern skip limit numbers)
+  -- The header test passes for the writer and beside a writer, and for every role where the image is CLEAN, as a fresh one is.
+  pub passes-dirty : {o : Options} {image : List ℕ} {m : Map} {fields : UserFields} → History o image m fields
+      → (role : ℕ) → role ≤ 2 → (role ≡ 0 → ⊥) → headerTest (withRole o role) image ≡ done
+  pub passes-clean : {o : Options} {image : List ℕ} {m : Map} {fields : UserFields} → History o image m fields
+      → value image F.state ≡ CLEAN → (role : ℕ) → role ≤ 2 → headerTest (withRole o role) image ≡ done
   pub fresh-clean : (o : Options) (buffer : List ℕ) → Word (o .«user_version») → createOf o buffer .answer ≡ done
       → value (createOf o buffer .image) F.state ≡ CLEAN
-  -- "and the bytes are those the SLC1 rules give": a fresh image, and what a commit leaves
+  -- "and the bytes are those the SLC1 rules give": the definitions of create and commit say which. The next three fields are
+  -- those definitions unfolded, so that the demand can be read in one place; they are no further evidence.
   pub fresh-bytes : (o : Options) (buffer : List ℕ) → createOf o buffer .answer ≡ done
       → createOf o buffer .image ≡ fresh o ++ drop (totalSize o) buffer
   pub bytes : (o : Options) (image batch : List ℕ) → commitOf o image batch .answer ≡ done
@@ -84,14 +86,17 @@ pub record Demand2 : Type 0 where
       → (commitOf o image batch .answer ≡ done) ↔ NoneHolds (commitTests o image batch)
   -- "The writer's full check passes on the fresh image, after begin and after each accepted commit": on every image of a
   -- history
-  pub checks : (o : Options) (image : List ℕ) (m : Map) → History o image m → checkOf (writer o) image .answer ≡ done
+  pub checks : {o : Options} {image : List ℕ} {m : Map} {fields : UserFields} → History o image m fields
+      → checkOf (writer o) image .answer ≡ done
   -- it passes just the images for which the header test gives 0 and every sentence of its paragraph holds
   pub check-passes : (o : Options) (image : List ℕ)
       → (checkOf o image .answer ≡ done) ↔ ((headerTest o image ≡ done) × (passes (shapeOf image) image ≡ true))
   -- the writer can begin and checkpoint on every image of a history
-  pub begins : (o : Options) (image : List ℕ) (m : Map) → History o image m → beginOf (writer o) image .answer ≡ done
-  pub checkpoints : (o : Options) (image : List ℕ) (m : Map) → History o image m
+  pub begins : {o : Options} {image : List ℕ} {m : Map} {fields : UserFields} → History o image m fields
+      → beginOf (writer o) image .answer ≡ done
+  pub checkpoints : {o : Options} {image : List ℕ} {m : Map} {fields : UserFields} → History o image m fields
       → (checkpointOf (writer o) image .answer ≡ done) × (value (checkpointOf (writer o) image .image) F.state ≡ CLEAN)
   -- an image that was invalidated is no longer read: 3
-  pub invalidates : (o : Options) (image : List ℕ) (m : Map) → History o image m → invalidateOf (writer o) image .answer ≡ done
-      → (role : ℕ) → role ≤ 2 → headerTest (withRole o role) (invalidateOf (writer o) image .image) ≡ invalidated
+  pub invalidates : {o : Options} {image : List ℕ} {m : Map} {fields : UserFields} → History o image m fields
+      → invalidateOf (writer o) image .answer ≡ done → (role : ℕ) → role ≤ 2
+      → headerTest (withRole o role) (invalidateOf (writer o) image .image) ≡ invalidated

@@ -9,6 +9,7 @@ use Rattle.header.specs.declared.options.Options.{Options}
 use Rattle.header.specs.declared.open.UserFields.{UserFields}
 use Rattle.header.specs.Answer.{done}
 use Rattle.header.specs.HeaderTest.{shapeOf}
+use Rattle.header.specs.Open.{noFields}
 use Rattle.header.specs.Sizes.{totalSize}
 use Rattle.writing.specs.Create.{createOf}
 use Rattle.writing.specs.State.{beginOf, checkpointOf, setUserFieldsOf}
@@ -46,22 +47,31 @@ pub record Handed (fields : UserFields) : Type 0 where
 abbrev pub emptyMap : Map
 emptyMap key = none
 
--- What a writer can have done under options o, the image that this leaves, and the map that it stands for. A call that is
--- refused is in it too: it leaves image and map.
-pub data History (o : Options) : List ℕ → Map → Type 0 where
+-- What a writer can have done under options o: the image that this leaves, and the map and the user fields that the image
+-- stands for. A call that is refused is in it too: it leaves all three.
+pub data History (o : Options) : List ℕ → Map → UserFields → Type 0 where
   -- a fresh image, in a buffer that may be longer and hold anything
   created : (role : ℕ) (buffer : List ℕ) → Word (o .«user_version») → Bytes buffer
-      → createOf (withRole o role) buffer .answer ≡ done → History o (createOf (withRole o role) buffer .image) emptyMap
+      → createOf (withRole o role) buffer .answer ≡ done
+      → History o (createOf (withRole o role) buffer .image) emptyMap noFields
   -- the same bytes lent in another buffer, which past the total may go on differently
-  moved : {image : List ℕ} {m : Map} (image′ : List ℕ) → Bytes image′ → take (totalSize o) image′ ≡ take (totalSize o) image
-      → History o image m → History o image′ m
-  begun : {image : List ℕ} {m : Map} → History o image m → History o (beginOf (writer o) image .image) m
-  checkpointed : {image : List ℕ} {m : Map} → History o image m → History o (checkpointOf (writer o) image .image) m
-  marked : {image : List ℕ} {m : Map} (fields : UserFields) → Handed fields → History o image m
-      → History o (setUserFieldsOf (writer o) image fields .image) m
+  moved : {image : List ℕ} {m : Map} {fields : UserFields} (image′ : List ℕ) → Bytes image′
+      → take (totalSize o) image′ ≡ take (totalSize o) image → History o image m fields → History o image′ m fields
+  begun : {image : List ℕ} {m : Map} {fields : UserFields} → History o image m fields
+      → History o (beginOf (writer o) image .image) m fields
+  checkpointed : {image : List ℕ} {m : Map} {fields : UserFields} → History o image m fields
+      → History o (checkpointOf (writer o) image .image) m fields
+  -- user fields set: "replaces user_flags and user_data"
+  marked : {image : List ℕ} {m : Map} {fields : UserFields} (others : UserFields) → Handed others → History o image m fields
+      → setUserFieldsOf (writer o) image others .answer ≡ done
+      → History o (setUserFieldsOf (writer o) image others .image) m others
+  marking-refused : {image : List ℕ} {m : Map} {fields : UserFields} (others : UserFields) → History o image m fields
+      → (setUserFieldsOf (writer o) image others .answer ≡ done → ⊥)
+      → History o (setUserFieldsOf (writer o) image others .image) m fields
   -- an accepted commit: the batch applied to the map
-  committed : {image : List ℕ} {m : Map} (batch : List ℕ) → Bytes batch → History o image m
+  committed : {image : List ℕ} {m : Map} {fields : UserFields} (batch : List ℕ) → Bytes batch → History o image m fields
       → commitOf (writer o) image batch .answer ≡ done
-      → History o (commitOf (writer o) image batch .image) (applied (shapeOf image) batch m)
-  refused : {image : List ℕ} {m : Map} (batch : List ℕ) → History o image m
-      → (commitOf (writer o) image batch .answer ≡ done → ⊥) → History o (commitOf (writer o) image batch .image) m
+      → History o (commitOf (writer o) image batch .image) (applied (shapeOf image) batch m) fields
+  commit-refused : {image : List ℕ} {m : Map} {fields : UserFields} (batch : List ℕ) → History o image m fields
+      → (commitOf (writer o) image batch .answer ≡ done → ⊥)
+      → History o (commitOf (writer o) image batch .image) m fields

@@ -3,8 +3,13 @@ pub mod Demand2
 pub mod Demand3
 pub mod Examples
 pub mod History
+pub mod Listings
+pub mod Shows
 pub mod PastTotal
+pub mod Literal
 pub mod Story
+pub mod OrderedStory
+pub mod Pins
 pub mod Calls
 pub mod Exports
 pub mod Outcomes

@@ -1,0 +1,63 @@
+-- What a host reads at a slot is what the library reads there: the places that the host is given are those of the image.
+-- Assumes nothing.
+use Prim.Native.Nat.{ℕ, _-_, _<_}
+use mathlib.Core.Path.{_≡_, refl, _∙_}
+use mathlib.Core.List.{List}
+use native.Mathlib.Omega.{arith}
+use borrow.Author.Tests.{lt-ltb}
+use Rattle.header.specs.declared.options.Options.{Options}
+use Rattle.header.specs.declared.shape.Shape.{Shape}
+use Rattle.header.specs.HeaderTest.{headerTest, shapeOf}
+use Rattle.header.specs.Shaped.{Shaped}
+use Rattle.header.proofs.Fit.{judged-fit, fit-shaped, fit-key-size, fit-index-size, fit-slot-capacity}
+use Rattle.header.proofs.Stages.{passes}
+use Rattle.image.specs.Table.{slotAt, keyAt, revisionAt, indexAt, keyOf, revisionOf, indexOf}
+use Rattle.image.proofs.Places.{revision-in-slot, key-inside, index-inside}
+use Rattle.host.specs.Places.{placeIn, keyPlace, indexPlace}
+use Rattle.maps.proofs.MapSlots.{entryOf}
+use Rattle.demands.specs.Shows.{Shows}
+
+module _ (o : Options) (image : List ℕ) (z : headerTest o image ≡ 0) where
+  abbrev s : Shape
+  s = shapeOf image
+
+  shaped : Shaped s image
+  shaped = fit-shaped o image s (judged-fit o image z)
+
+  pub same-key-size : s .«key_size» ≡ o .«key_size»
+  same-key-size = fit-key-size o image s (judged-fit o image z)
+
+  same-index-size : s .«index_size» ≡ o .«index_size»
+  same-index-size = fit-index-size o image s (judged-fit o image z)
+
+  pub same-capacity : s .«slot_capacity» ≡ o .«slot_capacity»
+  same-capacity = fit-slot-capacity o image s (judged-fit o image z)
+
+  module _ (n : ℕ) (inside : n < s .«slot_capacity») where
+    given : (place : ℕ) → placeIn o n place ≡ place
+    unfolding placeIn
+    given place = rw (passes o image z .first, lt-ltb n (o .«slot_capacity») (rw same-capacity at inside)) refl
+
+    key-placed : keyPlace o n ≡ keyAt s n
+    unfolding keyPlace keyAt slotAt
+    key-placed = given _ ∙ rw (shaped .slot, same-key-size, same-index-size) refl
+
+    index-placed : indexPlace o n ≡ indexAt s n
+    unfolding indexPlace indexAt slotAt
+    index-placed = given _ ∙ rw (shaped .slot, same-key-size, same-index-size) refl
+
+    revision-placed : indexPlace o n - 8 ≡ revisionAt s n
+    revision-placed = omega (arith, index-placed, revision-in-slot s n)
+
+    -- a slot shows its key and its entry
+    pub slot-shows : Shows o image n (keyOf s image n) (entryOf s image n)
+    unfolding keyOf revisionOf indexOf
+    slot-shows =
+        record {
+          below = rw same-capacity at inside;
+          key-bytes = rw (key-placed, ← same-key-size) refl;
+          index-bytes = rw (index-placed, ← same-index-size) refl;
+          revision-bytes = rw revision-placed refl;
+          key-inside = rw (key-placed, ← same-key-size) (key-inside s image shaped n inside);
+          index-inside = rw (index-placed, ← same-index-size) (index-inside s image shaped n inside);
+        }
