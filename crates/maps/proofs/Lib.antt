@@ -17,7 +17,6 @@ pub mod MapNew
 pub mod MapShape
 pub mod MapKept
 pub mod MapFresh
-pub mod ListKept
 pub mod MapSettled
 pub mod MapLaw
 pub mod ReadsMap
