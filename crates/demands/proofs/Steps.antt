@@ -27,6 +27,7 @@ use Rattle.applying.specs.Apply.{acted, afterLive, withCounters, withSlots, aft
 use Rattle.commit.specs.Commit.{fallsBehind, soundTests, roomTests, furtherTests, commitTests, commitOf}
 use Rattle.demands.specs.Story.{Steps}
 use Rattle.demands.specs.OrderedStory.{OrderedSteps}
+use Rattle.demands.specs.Refusals.{HeaderRefusals, FurtherRefusals, CheckRefusals}
 
 -- all that is computed with
 computed : Unit {0}
@@ -75,4 +76,95 @@ ordered-steps =
       reader-passes = refl;
       two-buckets = refl;
       one-bucket = refl;
+    }
+
+pub header-refusals : HeaderRefusals
+unfolding computed
+header-refusals =
+    record {
+      key-0 = refl;
+      key-65 = refl;
+      index-257 = refl;
+      capacity-0 = refl;
+      capacity-4097 = refl;
+      ordered-2 = refl;
+      role-3 = refl;
+      largest = refl;
+      length-0 = refl;
+      length-1 = refl;
+      length-255 = refl;
+      length-256 = refl;
+      magic = refl;
+      version = refl;
+      header-size = refl;
+      hash-alg = refl;
+      odd-0 = refl;
+      odd-1 = refl;
+      odd-2 = refl;
+      crc = refl;
+      flag = refl;
+      reserved-first = refl;
+      reserved-last = refl;
+      state = refl;
+      given-up = refl;
+      another-key = refl;
+      another-index = refl;
+      another-slot = refl;
+      another-capacity = refl;
+      another-version = refl;
+      another-order = refl;
+      buckets-1 = refl;
+      buckets-6 = refl;
+      buckets-16 = refl;
+      slots-offset = refl;
+      buckets-offset = refl;
+      shorter = refl;
+      longer = refl;
+      live = refl;
+      tombstones = refl;
+      highwater = refl;
+      dirty-0 = refl;
+      dirty-1 = refl;
+      dirty-2 = refl;
+    }
+
+pub further-refusals : FurtherRefusals
+unfolding computed
+further-refusals =
+    record {
+      clean = refl;
+      not-clean = refl;
+      last-generation = refl;
+      one-before = refl;
+      empty = refl;
+      a-put = refl;
+      a-delete = refl;
+      cut = refl;
+      records-64 = refl;
+      records-65 = refl;
+      meta-2 = refl;
+      key-padding = refl;
+      index-padding = refl;
+      delete-revision = refl;
+      delete-index = refl;
+      second-record = refl;
+    }
+
+pub check-refusals : CheckRefusals
+unfolding computed
+check-refusals =
+    record {
+      right = refl;
+      past-highwater = refl;
+      deleted-slot = refl;
+      another-hash = refl;
+      meta-2 = refl;
+      twin = refl;
+      tombstone-more = refl;
+      right-ordered = refl;
+      falling = refl;
+      lookup-past = refl;
+      lookup-dead = refl;
+      lookup-long = refl;
+      lookup-none = refl;
     }

@@ -10,6 +10,7 @@ pub mod Literal
 pub mod Story
 pub mod OrderedStory
 pub mod Pins
+pub mod Refusals
 pub mod Calls
 pub mod Exports
 pub mod Outcomes
