@@ -15,7 +15,7 @@ pub struct Age {
     pub distance: u64,
 }
 
-// A signed number moved up by 2^63, so that its order is that of unsigned numbers.
+// A signed number moved up by 2^63, so that the distance of two is a difference of unsigned numbers.
 fn biased(x: i64) -> u64
     ensures { λ r. ⌜ pos r ≡ x +ℤ pos 9223372036854775808 ⌝ }
 {
@@ -32,13 +32,13 @@ pub fn revision_age(first: i64, second: i64) -> Age
 {
     let from = biased(first);
     let to = biased(second);
-    if from < to {
+    if first < second {
         return Age {
             order: Order::Newer,
             distance: to - from,
         };
     }
-    if to < from {
+    if second < first {
         return Age {
             order: Order::Older,
             distance: from - to,
