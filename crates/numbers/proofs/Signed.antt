@@ -151,6 +151,6 @@ unfolding signed
 from-half x l =
     rw (le-ltb x 9223372036854775808 l, toZ-pos w64 {n = 18446744073709551615 - x} (omega arith)) (less-one (18446744073709551615 - x))
 
-pub signed-fits : (x : ℕ) → 9223372036854775808 ≤ x → SFits w64 (signed x)
+pub from-half-fits : (x : ℕ) → 9223372036854775808 ≤ x → SFits w64 (negsuc 0 -ℤ toZ w64 (18446744073709551615 - x))
 unfolding signed
-signed-fits x l = rw (le-ltb x 9223372036854775808 l) (record { sfits = omega arith })
+from-half-fits x l = rw (from-half x l, le-ltb x 9223372036854775808 l) (record { sfits = omega arith })

@@ -1,8 +1,9 @@
 -- `numbers::words::signed_of` meets its contract: each half of the words has its law.
 -- Assumes nothing.
 use borrow.Author.Needs.{needs}
+use mathlib.Core.Path.{_∙_}
 use mir.Facts.{toZ-ofZ}
-use Rattle.numbers.proofs.Signed.{below-half, from-half, signed-fits}
+use Rattle.numbers.proofs.Signed.{below-half, from-half, from-half-fits}
 use Rattle.numbers.proofs.words.signed_of.Statement.{statement}
 use Rattle.numbers.proofs.words.signed_of.Tie as tie
 
@@ -19,14 +20,12 @@ cast-result-2 : tie.Need-cast-result-2
 cast-result-2 c = search needs
 
 sub-result-2 : tie.Need-sub-result-2
-sub-result-2 c =
-    let x = c .before .args .x in
-    rw (from-half x (c .if1 .left)) (signed-fits x (c .if1 .left))
+sub-result-2 c = from-half-fits (c .before .args .x) (c .if1 .left)
 
 returns-2 : tie.Need-returns-2
 returns-2 c =
     let x = c .before .args .x in
-    rw (from-half x (c .if1 .left)) (toZ-ofZ (signed-fits x (c .if1 .left)))
+    toZ-ofZ (from-half-fits x (c .if1 .left)) ∙ from-half x (c .if1 .left)
 
 pub signed-of-spec : {M : Type 1} → statement M
 signed-of-spec =
