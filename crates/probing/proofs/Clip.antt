@@ -147,9 +147,9 @@ module _ (t : Table) where
   placeFrom-inside (suc left) b l = go (t .bucket b) (placeFrom-inside left (next t b) (mod-lt _ (omega arith)))
     where
       go : {onward : ℕ} (x : Bucket) → onward < t .B → takes b onward x < t .B
-      go EMPTY on = l
-      go TOMBSTONE on = l
-      go (FULL h s) on = on
+      go EMPTY on = search
+      go TOMBSTONE on = search
+      go (FULL h s) on = search
 
   pub place-inside : 0 < t .B → (k : List ℕ) → place t k < t .B
   unfolding place
