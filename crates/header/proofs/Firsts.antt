@@ -14,6 +14,15 @@ named [] = true
 named ((t, zero) ∷ ts) = false
 named ((t, suc n) ∷ ts) = named ts
 
+-- a test that holds gives its number; one that does not leaves it to the tests behind it
+pub first-holds : {t : Bool} (n : ℕ) (ts : List (Bool × ℕ)) → t ≡ true → n ≡ firstOf ((t, n) ∷ ts)
+unfolding firstOf
+first-holds n ts e = rw e
+
+pub first-fails : {t : Bool} (n : ℕ) (ts : List (Bool × ℕ)) {m : ℕ} → t ≡ false → m ≡ firstOf ts → m ≡ firstOf ((t, n) ∷ ts)
+unfolding firstOf
+first-fails n ts e h = rw e h
+
 -- a list that gives a number gives it with any tests behind it
 pub first-stops : (xs ys : List (Bool × ℕ)) {n : ℕ} → n ≡ firstOf xs → (n ≡ 0 → ⊥) → n ≡ firstOf (xs ++ ys)
 unfolding firstOf
