@@ -2,7 +2,7 @@
 -- Assumes nothing.
 use denote.Ref.{now}
 use native.Mathlib.Omega.{arith}
-use mathlib.Core.Path.{refl, _∙_}
+use mathlib.Core.Path.{_∙_}
 use lib.Dec.{lit<}
 use lib.ListN.{replicate}
 use Rattle.header.specs.Fields as F
@@ -33,9 +33,9 @@ returns c =
     let e = c .before .before in
     let d = e .before .before in
     let a = d .before .before in
-    let i = now (a .args .image) in
-    let whole = (rw (e .before .bytes-in .ensures) at (e .copy-to .ensures)) ∙ put-all (replicate 64 0) (bytesIn i F.user-data) (bytes-length i F.user-data (a .pre) (lit< tt)) in
-    rw (← whole, ← c .read .ensures) refl
+    let image = now (a .args .image) in
+    let whole = (rw (e .before .bytes-in .ensures) at (e .copy-to .ensures)) ∙ put-all (replicate 64 0) (bytesIn image F.user-data) (bytes-length image F.user-data (a .pre) (lit< tt)) in
+    λ i. record { «user_flags» = c .read .ensures i; «user_data» = whole i }
 
 pub user-fields-spec : {M : Type 1} → statement M
 user-fields-spec =
