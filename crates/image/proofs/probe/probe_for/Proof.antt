@@ -3,8 +3,8 @@
 use borrow.Author.Needs.{needs}
 use native.Mathlib.Omega.{arith}
 use native.Mathlib.Nat.{mod-lt}
-use mathlib.Core.Path.{_≡_, sym, ap, _∙_}
-use Prim.Native.Nat.{_+_, _-_, _≤_, _<_}
+use mathlib.Core.Path.{_≡_, sym, ap, ap₂, _∙_}
+use Prim.Native.Nat.{ℕ, _+_, _-_, _%_, _≤_, _<_}
 use Rattle.probing.specs.Probe.{next, probeFrom, probe}
 use Rattle.image.specs.Table.{tableOf}
 use Rattle.image.specs.Lookup.{probeOf, told}
@@ -44,10 +44,12 @@ rem-b c = search needs
 
 loop-holds : tie.Need-loop-holds Inv-loop μ-loop
 unfolding probeOf probe tableOf
-loop-holds c = let s = c .before .before .before .args .s in
-    let all : s .«bucket_count» - 0 ≡ s .«bucket_count» = omega arith in
-    let hash = c .fnv1a64-of .ensures in
-    (mod-lt _ (search needs), search needs, rw (all, hash))
+loop-holds c =
+    let a = c .before .before .before .args in
+    let count = a .s .«bucket_count» in
+    let all : count ≡ count - 0 = omega arith in
+    let start = ap₂ (λ (left h : ℕ). probeFrom (tableOf (a .s) (a .image .now)) (a .key .now) left (h % count) 0) all (sym (c .fnv1a64-of .ensures)) in
+    (mod-lt _ (search needs), search needs, start)
 
 examine-requires : tie.Need-examine-requires Inv-loop μ-loop
 examine-requires c κs = search needs
