@@ -1,7 +1,8 @@
 -- `writing::state::put_invalidated` meets its contract.
 -- Assumes nothing.
-use Rattle.writing.specs.Write.{withFields}
-use Rattle.writing.specs.State.{published}
+use Rattle.header.specs.Fields as F
+use Rattle.header.specs.HeaderTest.{INVALIDATED}
+use Rattle.writing.proofs.StateCode.{wrote-last, publishes}
 use borrow.Author.Needs.{needs}
 use Rattle.writing.proofs.state.put_invalidated.Statement.{statement}
 use Rattle.writing.proofs.state.put_invalidated.Tie as tie
@@ -22,8 +23,12 @@ same-length : tie.Need-same-length
 same-length c = search needs
 
 returns : tie.Need-returns
-unfolding published withFields
-returns c = cc
+returns c =
+    let sealing = c .before .before in
+    let second = sealing .before .before .before .before in
+    let first = second .before .before .before .before in
+    let start = first .before .before .before in
+    publishes (start .args .image .now) _ (start .pre .1) (first .write .ensures) (wrote-last F.state INVALIDATED _ (second .write2 .ensures)) (sealing .seal .ensures)
 
 pub put-invalidated-spec : {M : Type 1} → statement M
 put-invalidated-spec =

@@ -1,14 +1,20 @@
 -- `writing::state::put_user_fields` meets its contract.
 -- Assumes nothing.
-use denote.Ref.{now}
-use mathlib.Core.Path.{_≡_}
+use Prim.Native.Nat.{ℕ, _+_}
+use mathlib.Core.Path.{_≡_, sym, ap, _∙_}
+use mathlib.Core.List.{List}
 use lib.ListN.{length}
-use Rattle.writing.specs.Write.{withFields}
-use Rattle.writing.specs.State.{published}
-use Rattle.writing.proofs.StateCode.{user-data-generation}
+use Rattle.header.specs.Fields as F
+use Rattle.writing.specs.Write.{withField}
+use Rattle.writing.specs.State.{withUserData}
+use Rattle.writing.proofs.StateCode.{wrote-last, publishes, user-data-generation}
 use borrow.Author.Needs.{needs}
 use Rattle.writing.proofs.state.put_user_fields.Statement.{statement}
 use Rattle.writing.proofs.state.put_user_fields.Tie as tie
+
+-- the user data are as many bytes as their field has
+sized : (c : tie.Start) → length (c .args .fields .«user_data») ≡ 64
+sized c = search needs
 
 write-user-data-requires : tie.Need-write-user-data-requires
 write-user-data-requires c κs = search needs
@@ -29,11 +35,19 @@ same-length : tie.Need-same-length
 same-length c = search needs
 
 returns : tie.Need-returns
-unfolding published withFields
 returns c =
-    let a = c .before .before .before .before .before .before .before .before .before .before .before .before .before .before .before .before .before .before in
-    let n : length (a .args .fields .«user_data») ≡ 64 = search needs in
-    cc (user-data-generation (now (a .args .image)) (a .args .fields .«user_data») (a .pre .0) n)
+    let sealing = c .before .before in
+    let second = sealing .before .before .before .before in
+    let first = second .before .before .before .before in
+    let copied = first .before .before .before .before in
+    let start = copied .before .before .before .before in
+    let image = start .args .image .now in
+    let bytes = start .args .fields .«user_data» in
+    publishes (withUserData image bytes) _
+    (start .pre .1 ∙ sym (user-data-generation image bytes (start .pre .0) (sized start)))
+    (first .write .ensures ∙ ap (λ (l : List ℕ). withField l F.generation (start .args .generation + 2)) (copied .write-user-data .ensures))
+    (wrote-last F.user-flags (start .args .fields .«user_flags») _ (second .write2 .ensures))
+    (sealing .seal .ensures)
 
 pub put-user-fields-spec : {M : Type 1} → statement M
 put-user-fields-spec =
