@@ -1,8 +1,9 @@
 -- `slots::slots::publish` meets its contract.
 -- Assumes nothing.
 use borrow.Author.Needs.{needs}
-use Rattle.writing.specs.Write.{withFields}
-use Rattle.writing.specs.State.{published}
+use mathlib.Core.Path.{_∙_}
+use Rattle.header.specs.Fields as F
+use Rattle.writing.proofs.StateCode.{wrote-last, wrote-before, publishes}
 use Rattle.slots.specs.Slots.{counted}
 use Rattle.slots.proofs.slots.publish.Statement.{statement}
 use Rattle.slots.proofs.slots.publish.Tie as tie
@@ -35,8 +36,22 @@ same-length : tie.Need-same-length
 same-length c = search needs
 
 returns : tie.Need-returns
-unfolding counted published withFields
-returns c = cc
+unfolding counted
+returns c =
+    let sealing = c .before .before in
+    let fifth = sealing .before .before .before .before in
+    let fourth = fifth .before .before .before .before in
+    let third = fourth .before .before .before .before in
+    let second = third .before .before .before .before in
+    let first = second .before .before .before .before in
+    let generation = first .before .before in
+    let a = generation .before .before .before .args in
+    publishes (a .image .now) _ (generation .read .ensures) (first .write .ensures)
+    (wrote-last F.bucket-tombstones (a .s .«bucket_tombstones») _ (fifth .write5 .ensures)
+    ∙ wrote-before F.bucket-used (a .s .«live_count») _ (fourth .write4 .ensures) _
+    ∙ wrote-before F.live-count (a .s .«live_count») _ (third .write3 .ensures) _
+    ∙ wrote-before F.slot-highwater (a .s .«slot_highwater») _ (second .write2 .ensures) _)
+    (sealing .seal .ensures)
 
 pub publish-spec : {M : Type 1} → statement M
 publish-spec =
