@@ -1,7 +1,7 @@
 -- A slot put into the index: one bucket more is FULL, and all else stays.
 -- Assumes nothing.
 use Prim.Native.Nat.{ℕ, _+_, _≤_, _<_}
-use mathlib.Core.Path.{_≡_, refl, sym, ap, _∙_}
+use mathlib.Core.Path.{_≡_, refl, sym, ap, ap₂, _∙_}
 use mathlib.Core.List.{List, _++_}
 use native.Mathlib.Nat.{add-sub-cancel}
 use native.Mathlib.Omega.{arith}
@@ -65,11 +65,17 @@ module _ (s : Shape) (image : List ℕ) (fit : Shaped s image) (n : ℕ) (inside
   whole : bucketAt s bucket + 16 ≤ length image
   whole = bucket-inside s image fit bucket bucket-below
 
-  pub two-puts : put mid (bucketAt s bucket + 8) (bytesOf 8 (n + 1)) ≡ indexed s image n
+  two-puts : put mid (bucketAt s bucket + 8) (bytesOf 8 (n + 1)) ≡ indexed s image n
   unfolding indexed
   two-puts =
       let size = length-bytes 8 hash in
       rw size at (put-put image (bucketAt s bucket) (bytesOf 8 hash) (bytesOf 8 (n + 1)) (omega (arith, whole)))
+
+  pub indexes : {at h : ℕ} {a end : List ℕ} → at ≡ bucketAt s bucket → h ≡ hash → a ≡ put image at (bytesOf 8 h) → end ≡ put a (at + 8) (bytesOf 8 (n + 1))
+      → end ≡ indexed s image n
+  indexes there hashed ea ee =
+      let first = ea ∙ ap₂ (λ (at h : ℕ). put image at (bytesOf 8 h)) there hashed in
+      ee ∙ ap₂ (λ (l : List ℕ) (at : ℕ). put l (at + 8) (bytesOf 8 (n + 1))) first there ∙ two-puts
 
   mid-length : length mid ≡ length image
   mid-length = length-put image (bucketAt s bucket) (bytesOf 8 hash) (omega (arith, whole, length-bytes 8 hash))

@@ -1,7 +1,7 @@
 -- A slot removed: its meta is cleared and its bucket a TOMBSTONE, and all else stays.
 -- Assumes nothing.
 use Prim.Native.Nat.{ℕ, _+_, _-_, _%_, _≤_, _<_}
-use mathlib.Core.Path.{_≡_, refl, sym, ap, _∙_}
+use mathlib.Core.Path.{_≡_, refl, sym, ap, ap₂, _∙_}
 use mathlib.Core.List.{List}
 use native.Mathlib.Decide.{ℕ-discrete}
 use native.Mathlib.Omega.{arith}
@@ -24,6 +24,15 @@ use Rattle.slots.specs.Slots.{removed, all-ones}
 use Rattle.slots.proofs.Table.ReadBack.{word-put}
 use Rattle.slots.proofs.Table.Around.{Around, around-then, around-shaped, SameSlot, SameBody, same-body, put-behind}
 use Rattle.slots.proofs.Table.Apart.{fits-slots, slot-put-around, slot-put-slot, slot-put-bucket, bucket-put-around, bucket-put-slot, bucket-put-bucket}
+
+-- the meta cleared, then the bucket made a TOMBSTONE
+pub removes : (s : Shape) (image : List ℕ) (n b : ℕ) {slot bucket : ℕ} {mid end : List ℕ}
+    → slot ≡ slotAt s n → mid ≡ put image slot (bytesOf 8 0) → bucket ≡ bucketAt s b → end ≡ put mid (bucket + 8) (bytesOf 8 all-ones)
+    → end ≡ removed s image n b
+unfolding removed
+removes s image n b es em eb ee =
+    let cleared = em ∙ ap (λ (at : ℕ). put image at (bytesOf 8 0)) es in
+    ee ∙ ap₂ (λ (l : List ℕ) (at : ℕ). put l (at + 8) (bytesOf 8 all-ones)) cleared eb
 
 module _ (s : Shape) (image : List ℕ) (fit : Shaped s image) (n b : ℕ) (inside : n < s .«slot_capacity») (bucket : b < s .«bucket_count») where
   -- the image with the meta cleared

@@ -11,7 +11,7 @@ use Rattle.probing.specs.Change.{place}
 use Rattle.image.specs.Table.{bucketAt, keyOf, tableOf}
 use Rattle.image.proofs.Places.{bucket-inside}
 use Rattle.slots.proofs.Table.Place.{place-by-hash}
-use Rattle.slots.proofs.Table.Indexed.{bucket-below, two-puts}
+use Rattle.slots.proofs.Table.Indexed.{bucket-below, indexes}
 use Rattle.slots.proofs.slots.index_slot.Statement.{statement}
 use Rattle.slots.proofs.slots.index_slot.Tie as tie
 
@@ -69,10 +69,14 @@ same-length c = search needs
 
 returns : tie.Need-returns
 returns c =
-    let b = c .before .before .before .before .before .before .before .before .before in
+    let second = c .before .before in
+    let first = second .before .before .before .before in
+    let bucket = first .before .before in
+    let b = bucket .before in
     let a = start b .args in
     let pre = start b .pre in
-    cc (two-puts (a .s) (a .image .now) (pre .0) (a .n) (pre .1), found b, hashed b)
+    let there = bucket .bucket-at .ensures ∙ ap (bucketAt (a .s)) (found b) in
+    indexes (a .s) (a .image .now) (pre .0) (a .n) (pre .1) there (hashed b) (first .put-u64 .ensures) (second .put-u642 .ensures)
 
 pub index-slot-spec : {M : Type 1} → statement M
 index-slot-spec =

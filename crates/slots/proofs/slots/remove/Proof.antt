@@ -3,7 +3,7 @@
 use borrow.Author.Needs.{needs}
 use native.Mathlib.Omega.{arith}
 use Rattle.image.proofs.Places.{meta-inside, bucket-inside}
-use Rattle.slots.specs.Slots.{removed}
+use Rattle.slots.proofs.Table.Removed.{removes}
 use Rattle.slots.proofs.slots.remove.Statement.{statement}
 use Rattle.slots.proofs.slots.remove.Tie as tie
 
@@ -36,8 +36,13 @@ same-length : tie.Need-same-length
 same-length c = search needs
 
 returns : tie.Need-returns
-unfolding removed
-returns c = cc
+returns c =
+    let second = c .before .before in
+    let bucket = second .before .before in
+    let first = bucket .before .before .before in
+    let slot = first .before .before in
+    let a = slot .before .before .args in
+    removes (a .s) (a .image .now) (a .n) (a .b) (slot .slot-at .ensures) (first .put-u64 .ensures) (bucket .bucket-at .ensures) (second .put-u642 .ensures)
 
 pub remove-spec : {M : Type 1} → statement M
 remove-spec =
