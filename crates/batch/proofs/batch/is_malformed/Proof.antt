@@ -1,6 +1,8 @@
 -- `batch::batch::is_malformed` meets its contract.
 -- Assumes nothing.
+use mathlib.Core.Bool.{not, _&&_, _||_}
 use mathlib.Core.Path.{ap, _∙_}
+use lib.Dec.{eqb, ltb}
 use Rattle.numbers.specs.Bytes.{allZero}
 use Rattle.batch.specs.Batch.{malformed}
 use borrow.Author.Needs.{needs}
@@ -31,12 +33,11 @@ all-zero-requires-3 c κs = search needs
 returns : tie.Need-returns
 unfolding malformed
 returns c =
-    let r = c .before .before .before .before .before .before .before .before .args .r .now in
     let m = c .before .before .before .before .before .before .meta-in .ensures in
     let k = c .before .before .before .before .all-zero .ensures ∙ ap allZero (c .before .before .before .before .before .key-padding .ensures) in
     let i = c .before .before .all-zero2 .ensures ∙ ap allZero (c .before .before .before .index-padding .ensures) in
     let v = c .all-zero3 .ensures ∙ ap allZero (c .before .revision-and-index .ensures) in
-    rw (m, k, i, v)
+    λ j. ltb 1 (m j) || not (k j) || not (i j) || (eqb (m j) 0 && not (v j))
 
 pub is-malformed-spec : {M : Type 1} → statement M
 is-malformed-spec =
