@@ -3,7 +3,7 @@
 -- Assumes nothing.
 use Prim.Native.Nat.{ℕ, zero, suc, _<_}
 use mathlib.Core.Bool.{true, cond}
-use mathlib.Core.Path.{_≡_, refl, sym, _∙_}
+use mathlib.Core.Path.{_≡_, refl, sym, ap, _∙_}
 use mathlib.Core.Logic.{_⊎_, inl, inr}
 use mathlib.Core.List.{List}
 use mathlib.Core.Option.{Option, some, none}
@@ -52,7 +52,7 @@ module _ (s : Shape) (batch : List ℕ) where
     -- one record more
     more-same : (n : ℕ) → keyAt s batch n ≡ k → appliedTo s batch (suc n) m k ≡ said s (recordAt s batch n)
     unfolding appliedTo actsOn keyAt
-    more-same n e = rw (eq-same k (keyIn s (recordAt s batch n)) (sym e))
+    more-same n e = ap (λ b. cond b (said s (recordAt s batch n)) (appliedTo s batch n m k)) (eq-same k (keyIn s (recordAt s batch n)) (sym e))
 
     more-other : (n : ℕ) → (keyAt s batch n ≡ k → ⊥) → appliedTo s batch (suc n) m k ≡ appliedTo s batch n m k
     unfolding appliedTo actsOn keyAt

@@ -1,6 +1,9 @@
 -- `host::sizes::slc1_index_offset` meets its contract.
 -- Assumes nothing.
+use Prim.Native.Nat.{ℕ, _+_}
+use mathlib.Core.Path.{ap₂}
 use native.Mathlib.Omega.{arith}
+use Rattle.image.specs.Places.{slotStart}
 use Rattle.header.proofs.SizeLaws.{align8-high}
 use Rattle.host.specs.Places.{indexPlace}
 use Rattle.host.proofs.PlaceLaws.{sizes, place-refused, place-beyond, place-fits, place-inside}
@@ -47,7 +50,7 @@ returns-3 : tie.Need-returns-3
 unfolding indexPlace
 returns-3 c =
     place-inside _ _ (c .before .before .before .before .options-test .ensures) (c .before .before .before .if1 .left) _ (c .before .before .if2 .left)
-    (rw (c .before .slot-size .ensures, c .align8 .ensures))
+    (ap₂ (λ (size key : ℕ). slotStart size (c .before .before .before .before .before .args .slot) + 16 + key) (c .before .slot-size .ensures) (c .align8 .ensures))
 
 pub slc1-index-offset-spec : {M : Type 1} → statement M
 slc1-index-offset-spec =

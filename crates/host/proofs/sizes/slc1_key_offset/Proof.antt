@@ -1,6 +1,8 @@
 -- `host::sizes::slc1_key_offset` meets its contract.
 -- Assumes nothing.
+use mathlib.Core.Path.{ap}
 use native.Mathlib.Omega.{arith}
+use Rattle.image.specs.Places.{slotStart, keyStart}
 use Rattle.host.specs.Places.{keyPlace}
 use Rattle.host.proofs.PlaceLaws.{sizes, place-refused, place-beyond, place-fits, place-inside}
 use borrow.Author.Needs.{needs}
@@ -37,7 +39,7 @@ returns-3 : tie.Need-returns-3
 unfolding keyPlace
 returns-3 c =
     place-inside _ _ (c .before .before .before .options-test .ensures) (c .before .before .if1 .left) _ (c .before .if2 .left)
-    (rw (c .slot-size .ensures))
+    (ap (λ size. keyStart (slotStart size (c .before .before .before .before .args .slot))) (c .slot-size .ensures))
 
 pub slc1-key-offset-spec : {M : Type 1} → statement M
 slc1-key-offset-spec =
