@@ -1,12 +1,13 @@
-"""docs/promises.md against the tree: every file and edit that it names is there, every definition stands in a file beside
-it, and every must-fail edit and every call of slc1.h is named."""
+"""docs/promises.md and docs/audit.md against the tree: every file and wrong program that they name is there, every definition
+stands in a file beside it; promises.md names every wrong program and every call of slc1.h, and audit.md every experiment."""
 
+import collections
 import os
 import re
 import sys
 
-ROOT = os.path.dirname(os.path.dirname(os.path.abspath(__file__)))
-CRATES = sorted(os.listdir(os.path.join(ROOT, "crates")))
+from wrong_programs import ROOT, crates, wrong_programs
+
 OUTSIDE = ("tests/", "tools/", "examples/", "docs/", "include/", ".ci/", "crates.txt")
 
 
@@ -17,13 +18,6 @@ def read(path):
 
 def names(cell):
     return re.findall(r"`([^`]+)`", cell)
-
-
-def edits():
-    for crate in CRATES:
-        folder = os.path.join(ROOT, "crates", crate, "must-fail")
-        if os.path.isdir(folder):
-            yield from (file.removesuffix(".edit") for file in os.listdir(folder))
 
 
 def rows(text):
@@ -55,25 +49,40 @@ def wrong_names(cell, paths):
             yield f"{name} does not stand in {', '.join(paths)}"
 
 
-def complaints(text):
-    known = set(edits())
-    named = set(names(text))
-    yield from (f"the edit {edit} is not named" for edit in sorted(known - named))
-    yield from (f"{call} is not named" for call in sorted(set(re.findall(r"\bslc1_\w+(?=\()", read("include/slc1.h"))) - named))
-    for heading, (_, second, third) in rows(text):
+def table_complaints(text, known, tried):
+    """tried: for each call of slc1.h, its wrong programs."""
+    for heading, (first, second, third) in rows(text):
         if heading == "file" and third:
             paths = list(files(third))
             missing = [path for path in paths if not os.path.exists(os.path.join(ROOT, path))]
             yield from (f"{path} is not there" for path in missing)
             if not missing:
                 yield from wrong_names(second, paths)
-        if "edits" in heading or "wrong programs" in heading:
-            yield from (f"{name} is no edit" for name in names(third) if name not in known | set(CRATES))
+        if "wrong programs" in heading:
+            yield from (f"{name} is no wrong program" for name in names(third) if name not in known)
+            for call in tried.keys() & set(names(first)):
+                yield from (f"{name} is not tried in {call}" for name in names(third) if name not in tried[call])
 
 
-found = list(complaints(read("docs/promises.md")))
+def complaints():
+    known = {wrong.name for wrong in wrong_programs()}
+    tried = collections.defaultdict(set)
+    for wrong in wrong_programs():
+        if wrong.crate == "host":
+            tried[wrong.where.split("::")[-1]].add(wrong.name)
+    promises, audit = read("docs/promises.md"), read("docs/audit.md")
+    named = set(names(promises))
+    calls = set(re.findall(r"\bslc1_\w+(?=\()", read("include/slc1.h")))
+    experiments = set(re.findall(r'^    "(\w+)": Experiment', read("tests/experiments.py"), re.M))
+    yield from (f"docs/promises.md does not name {name}" for name in sorted((known | calls) - named))
+    yield from (f"docs/audit.md does not name {name}" for name in sorted(experiments - set(names(audit))))
+    for file, text in (("docs/promises.md", promises), ("docs/audit.md", audit)):
+        yield from (f"{file}: {said}" for said in table_complaints(text, known | set(crates()), tried))
+
+
+found = list(complaints())
 for complaint in found:
-    print("docs/promises.md:", complaint)
+    print(complaint)
 if found:
     sys.exit(1)
-print(f"docs/promises.md names {len(set(edits()))} edits, and everything that it names is there")
+print("docs/promises.md and docs/audit.md name what is there, and promises.md every wrong program")
