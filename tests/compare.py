@@ -3,14 +3,23 @@
 usage: compare.py [SEED]
 """
 
+import os
 import random
+import re
 import sys
 import time
+from collections import defaultdict
 from copy import copy
 
 import native
 import second
 from images import Images
+
+CRATES = os.path.join(os.path.dirname(os.path.dirname(os.path.abspath(__file__))), "crates")
+# the calls, by what demand 1 names them
+JUDGED = {"create": "create", "open": "open_check", "begin": "begin", "commit": "commit", "checkpoint": "checkpoint",
+          "invalidate": "invalidate", "user-slice": "set_user_fields", "lookup": "lookup", "scan": "scan", "match": "match",
+          "check": "full_check"}
 
 
 class Comparison:
@@ -18,10 +27,13 @@ class Comparison:
         self.random = random.Random(seed)
         self.images = Images(self.random)
         self.calls = 0
+        self.reached = defaultdict(set)
 
     def same(self, name, *arguments):
         """Makes a call of both; ends the run where the answers, or what was lent, differ afterwards."""
-        self.equal(name, arguments, *(self.made(program, name, arguments) for program in (native, second)))
+        ours, theirs = (self.made(program, name, arguments) for program in (native, second))
+        self.reached[name].add(getattr(ours[0], "answer", ours[0]))
+        self.equal(name, arguments, ours, theirs)
 
     def equal(self, name, arguments, ours, theirs):
         self.calls += 1
@@ -179,12 +191,35 @@ def commits(comparison):
             comparison.same("commit", image, comparison.images.asked(o), comparison.images.batch(o, 8))
 
 
+def spec(*path):
+    with open(os.path.join(CRATES, *path)) as file:
+        return file.read()
+
+
+def numbers_listed():
+    """For each call, the numbers that demand 1 says it can answer."""
+    number = {name: int(n) for name, n in re.findall(r"^([\w-]+) = (\d+)$", spec("header", "specs", "Answer.antt"), re.M)}
+    demand = spec("demands", "specs", "Demand1.antt")
+    header = re.findall(r"[\w-]+(?= ∷)", re.search(r"headerNumbers =\s*(.*\[\])", demand).group(1))
+    listed = re.findall(r"pub ([\w-]+)-judges :.*?(?:Judges|Among) (\([^)]*\)|\w+) \(", demand, re.S)
+    for call, names in listed:
+        if call in JUDGED:
+            own = re.findall(r"[\w-]+(?= ∷)", names) + (header if "headerNumbers" in names else [])
+            yield JUDGED[call], {number[name] for name in own}
+
+
 def main():
     seed = int(sys.argv[1]) if len(sys.argv) > 1 else 1
     comparison = Comparison(seed)
     began = time.monotonic()
     for part in (digests, ages, places, readings, creations, writings, user_data, histories, commits):
         part(comparison)
+    listed = dict(numbers_listed())
+    if listed.keys() != set(JUDGED.values()):
+        sys.exit(f"demand 1 lists numbers for {sorted(listed)}")
+    for call, numbers in listed.items():
+        if comparison.reached[call] != numbers:
+            sys.exit(f"{call} answered {sorted(comparison.reached[call])}, and demand 1 lists {sorted(numbers)}")
     print(f"{comparison.calls} calls agree with the second program (seed {seed}, {time.monotonic() - began:.0f} s)")
 
 
