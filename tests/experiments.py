@@ -10,6 +10,7 @@ import subprocess
 import sys
 import tempfile
 from collections import namedtuple
+from concurrent.futures import ThreadPoolExecutor
 
 from wrong_programs import ROOT
 
@@ -18,12 +19,13 @@ from wrong_programs import ROOT
 Experiment = namedtuple("Experiment", "edits crate at says")
 
 EXPERIMENTS = {
-    # the place that a host is given for the index, in definition and code, moved onto the revision
+    # the place that a host is given for the index, in definition, code and proof, moved onto the revision
     "index_on_the_revision": Experiment(
         [
             ("host/specs/Places.antt", "keyStart, indexStart}", "keyStart, revisionStart}"),
             ("host/specs/Places.antt", "placeIn o slot (indexStart", "placeIn o slot (revisionStart"),
             ("host/src/sizes.rt", "+ 16 + align8(key_size)", "+ 8 + align8(key_size)"),
+            ("host/proofs/sizes/slc1_index_offset/Proof.antt", "+ 16 + key", "+ 8 + key"),
         ],
         "demands", "index-placed", "`16` (expected) and the other has `8` (found)",
     ),
@@ -81,11 +83,13 @@ def answer(experiment):
     return refused, error.group(1) if error else ""
 
 
+names = sys.argv[1:] or list(EXPERIMENTS)
+with ThreadPoolExecutor(2) as two:
+    answers = list(two.map(answer, (EXPERIMENTS[name] for name in names)))
 wrong = 0
-for name in sys.argv[1:] or EXPERIMENTS:
+for name, (refused, error) in zip(names, answers):
     experiment = EXPERIMENTS[name]
-    refused, error = answer(experiment)
-    print(f"{name}: {', '.join(refused) or 'nothing'} refused; {experiment.at}: {error[:200] or 'no error'}", flush=True)
+    print(f"{name}: {', '.join(refused) or 'nothing'} refused; {experiment.at}: {error.partition(chr(10))[0][:200] or 'no error'}")
     if refused != [experiment.crate] or experiment.says not in error:
         print(f"{name} should be refused in {experiment.crate} at {experiment.at}, with '{experiment.says}'")
         wrong += 1
