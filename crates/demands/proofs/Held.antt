@@ -10,6 +10,7 @@ use lib.ListN.{length, take, drop}
 use Rattle.header.specs.declared.options.Options.{Options}
 use Rattle.header.specs.declared.open.UserFields.{UserFields}
 use Rattle.header.specs.declared.shape.Shape.{Shape}
+use Rattle.header.specs.Answer.{done}
 use Rattle.header.specs.Fields as F
 use Rattle.header.specs.Fields.{value}
 use Rattle.header.specs.FirstOf.{firstOf}
@@ -45,8 +46,8 @@ use Rattle.demands.proofs.SameReading as same-reading
 
 pub record Held (o : Options) (image : List ℕ) (m : Map) (fields : UserFields) : Type 0 where
   pub bytes : Bytes image
-  pub dirty : (role : ℕ) → role ≤ 2 → (role ≡ 0 → ⊥) → headerTest (withRole o role) image ≡ 0
-  pub clean : value image F.state ≡ CLEAN → (role : ℕ) → role ≤ 2 → headerTest (withRole o role) image ≡ 0
+  pub dirty : (role : ℕ) → role ≤ 2 → (role ≡ 0 → ⊥) → headerTest (withRole o role) image ≡ done
+  pub clean : value image F.state ≡ CLEAN → (role : ℕ) → role ≤ 2 → headerTest (withRole o role) image ≡ done
   pub passed : passes (shapeOf image) image ≡ true
   pub map : mapOf (shapeOf image) image ≡ m
   pub user : userFields image ≡ fields

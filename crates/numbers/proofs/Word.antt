@@ -57,7 +57,9 @@ unfolding bytesOf
 four-stores s at x h = simp (add-one, add-two, add-three, div-div-eq-div-mul) (put-sets s at (x % 256 ∷ x / 256 % 256 ∷ x / 65536 % 256 ∷ x / 16777216 % 256 ∷ []) h)
 
 -- the two halves of a number, put one behind the other
-pub two-words : (s : List ℕ) (at x : ℕ) → at + 8 ≤ length s
-    → put (put s at (bytesOf 4 (x % 4294967296))) (at + 4) (bytesOf 4 (x / 4294967296)) ≡ put s at (bytesOf 8 x)
+pub two-words : (s : List ℕ) (at x : ℕ) {s₁ s₂ : List ℕ} → at + 8 ≤ length s → s₁ ≡ put s at (bytesOf 4 (x % 4294967296))
+    → s₂ ≡ put s₁ (at + 4) (bytesOf 4 (x / 4294967296)) → s₂ ≡ put s at (bytesOf 8 x)
 unfolding bytesOf
-two-words s at x h = rw (bytes-mod 4 x, bytes-add 4 4 x) (put-put s at (bytesOf 4 x) (bytesOf 4 (x / 4294967296)) (omega arith))
+two-words s at x h first second =
+    second ∙ ap (λ (l : List ℕ). put l (at + 4) (bytesOf 4 (x / 4294967296))) first
+    ∙ rw (bytes-mod 4 x, bytes-add 4 4 x) (put-put s at (bytesOf 4 x) (bytesOf 4 (x / 4294967296)) (omega arith))

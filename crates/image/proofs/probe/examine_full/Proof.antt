@@ -22,7 +22,8 @@ compared : (c : tie.After-same-bytes)
     c .same-bytes .result ≡ same (keyOf (a .s) (a .image .now) (a .n)) (a .key .now)
 compared c =
     let a = c .before .before .before .before .before .before .before .args in
-    c .same-bytes .ensures ∙ ap (λ (k : List ℕ). same k (a .key .now)) (c .before .key-part .ensures)
+    let said : c .same-bytes .result ≡ same (c .before .key-part .result .now) (a .key .now) = c .same-bytes .ensures in
+    said ∙ ap (λ (k : List ℕ). same k (a .key .now)) (c .before .key-part .ensures)
 
 returns : tie.Need-returns
 returns c =

@@ -1,11 +1,7 @@
 -- `numbers::words::put_u64` meets its contract: the lower four bytes, and behind them the upper four.
 -- Assumes nothing.
 use borrow.Author.Needs.{needs}
-use Prim.Native.Nat.{ℕ, _+_, _/_}
-use mathlib.Core.Path.{ap, _∙_}
-use mathlib.Core.List.{List}
 use denote.Ref.{now}
-use Rattle.numbers.specs.Bytes.{put, bytesOf}
 use Rattle.numbers.proofs.Word.{two-words}
 use Rattle.numbers.proofs.words.put_u64.Statement.{statement}
 use Rattle.numbers.proofs.words.put_u64.Tie as tie
@@ -31,8 +27,8 @@ same-length c = search needs
 returns : tie.Need-returns
 returns c =
     let a = c .before .before .before .before .before .before .before .before .before in
-    c .before .before .put-u322 .ensures ∙ ap (λ (l : List ℕ). put l (a .args .at + 4) (bytesOf 4 (a .args .x / 4294967296))) (c .before .before .before .before .before .before .put-u32 .ensures)
-    ∙ two-words (now (a .args .s)) (a .args .at) (a .args .x) (a .pre)
+    two-words (now (a .args .s)) (a .args .at) (a .args .x) (a .pre) (c .before .before .before .before .before .before .put-u32 .ensures)
+    (c .before .before .put-u322 .ensures)
 
 pub put-u64-spec : {M : Type 1} → statement M
 put-u64-spec =

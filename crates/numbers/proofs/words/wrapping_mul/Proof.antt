@@ -1,8 +1,8 @@
 -- `numbers::words::wrapping_mul` meets its contract: the law of a product taken in halves.
 -- Assumes nothing.
 use borrow.Author.Needs.{needs}
-use Prim.Native.Nat.{ℕ, _+_, _*_, _%_, _^_}
-use mathlib.Core.Path.{ap, _∙_}
+use Prim.Native.Nat.{ℕ, _+_, _*_, _/_, _%_, _^_}
+use mathlib.Core.Path.{_≡_, ap, _∙_}
 use Rattle.numbers.proofs.Product.{product-fits, product-split}
 use Rattle.numbers.proofs.words.wrapping_mul.Statement.{statement}
 use Rattle.numbers.proofs.words.wrapping_mul.Tie as tie
@@ -26,7 +26,14 @@ wrapping-add-u64-requires-2 : tie.Need-wrapping-add-u64-requires-2
 wrapping-add-u64-requires-2 c κs = search needs
 
 returns : tie.Need-returns
-returns c = c .wrapping-add-u642 .ensures ∙ ap (λ (n : ℕ). (c .before .before .args .x % 4294967296 * (c .before .before .args .y % 4294967296) + n % 4294967296 * 4294967296) % 2 ^ 64) (c .before .wrapping-add-u64 .ensures) ∙ product-split (c .before .before .args .x) (c .before .before .args .y)
+returns c =
+    let x = c .before .before .args .x in
+    let y = c .before .before .args .y in
+    let middle : c .before .wrapping-add-u64 .result ≡ (x % 4294967296 * (y / 4294967296) + x / 4294967296 * (y % 4294967296)) % 2 ^ 64 =
+    c .before .wrapping-add-u64 .ensures in
+    c .wrapping-add-u642 .ensures
+    ∙ ap (λ (n : ℕ). (x % 4294967296 * (y % 4294967296) + n % 4294967296 * 4294967296) % 2 ^ 64) middle
+    ∙ product-split x y
 
 pub wrapping-mul-spec : {M : Type 1} → statement M
 wrapping-mul-spec =

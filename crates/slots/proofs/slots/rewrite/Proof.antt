@@ -3,8 +3,8 @@
 use borrow.Author.Needs.{needs}
 use mathlib.Core.Path.{_≡_, ap, ap₂, _∙_}
 use native.Mathlib.Omega.{arith}
-use Prim.Native.Nat.{ℕ, _+_, _≤_}
-use lib.ListN.{length, length-take}
+use Prim.Native.Nat.{ℕ, _+_, _-_, _≤_}
+use lib.ListN.{length, take, drop, length-take}
 use Rattle.numbers.specs.Bytes.{part, put}
 use Rattle.header.specs.Sizes.{align8, slotSize}
 use Rattle.header.proofs.SizeLaws.{align8-low}
@@ -64,13 +64,16 @@ returns c =
     let b = c .before .before .before .before .before .before .before .before .before .before in
     let aligned = c .before .before .before .before .before .before .before .align8 in
     let slot = c .before .before .before .before .before .slot-at in
-    let tail : ℕ = 8 + b .args .s .«index_size» in
-    let at : slot .result + (8 + aligned .result) ≡ slotAt (b .args .s) (b .args .n) + 8 + align8 (b .args .s .«key_size») =
-    omega (arith, slot .ensures, aligned .ensures) in
-    c .before .before .copy-to .ensures
+    let sizes = b .args .s in
+    let from : ℕ = 8 + aligned .result in
+    let end : ℕ = from + 8 + sizes .«index_size» in
+    let copied : c .before .before .copy-to .last .0 ≡ put (b .args .image .now) (slot .result + from) (take (end - from) (drop from (b .args .«record» .now))) =
+    c .before .before .copy-to .ensures in
+    let at : slot .result + from ≡ slotAt sizes (b .args .n) + 8 + align8 (sizes .«key_size») = omega (arith, slot .ensures, aligned .ensures) in
+    copied
     ∙ ap₂ (put (b .args .image .now)) at
-    (range-part (b .args .«record» .now) (8 + aligned .result) _ tail (omega arith)
-    ∙ ap (λ (x : ℕ). part (b .args .«record» .now) (8 + x) tail) (aligned .ensures))
+    (range-part (b .args .«record» .now) from end (8 + sizes .«index_size») (omega arith)
+    ∙ ap (λ (x : ℕ). part (b .args .«record» .now) (8 + x) (8 + sizes .«index_size»)) (aligned .ensures))
 
 pub rewrite-spec : {M : Type 1} → statement M
 rewrite-spec =
