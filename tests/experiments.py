@@ -37,7 +37,7 @@ EXPERIMENTS = {
     # what begin owes, said of the routine of checkpoint
     "begin_by_checkpoint": Experiment(
         [("demands/specs/Calls.antt", "Owes begin.ended begin.Symbol.routine", "Owes begin.ended checkpoint.Symbol.routine")],
-        "demands", "calls", "checkpoint",
+        "demands", "calls", "state.checkpoint.Symbol.routine",
     ),
     # a scan that ignores its skip, in definition, code and proof
     "scan_without_skip": Experiment(

@@ -12,14 +12,16 @@ import sys
 
 from wrong_programs import ROOT, wrong_programs
 
-# a refusal that shows a fact which fails, as the prover words it
+# a refusal that shows a fact which fails, as the prover words it: omega's numbers, or where two terms differ
 FACT = re.compile(
     r"the goal does not follow from what it read"
-    r"|the two (types|sides|values) (are|differ|first differ)|expected type `.*`,?\s+but this has type"
-    r"|on the face `i = 1` this λ's body is", re.S)
-# one that does not, whatever else it says
-SHAPE = re.compile(
+    r"|computed as far as they go, the two (types|sides|values) (are|differ only|first differ)"
+    r"|as printed, the two (types|sides|values) differ only"
+    r"|on the face `i = 1` this λ's body is")
+# a refusal that shows nothing, whatever else it says: a proof that lost its shape, or a prover that met a bound of its own
+NOTHING = re.compile(
     r"no occurrence of the path's|no part of the goal|list the missing equation|broke off|stopped at"
+    r"|could not be computed|took more than|are identical"
     r"|Need-|is not in scope(?! here, so what is shown)|that can be named from here|no field")
 
 ERROR = re.compile(r"^(\S+?):\d+:\d+: error: `([^`]+)`: (.*(?:\n  .*)*)", re.M)
@@ -53,7 +55,7 @@ def complaint(wrong):
     first = next(errors(wrong, log_of(wrong)), None)
     if first is None:
         return "is not refused there"
-    if SHAPE.search(first.split("was found. Every way was tried")[0]) or not FACT.search(first):
+    if NOTHING.search(first.split("was found. Every way was tried")[0]) or not FACT.search(first):
         return "is refused, and not because a fact fails: " + first[:300]
     return None
 
