@@ -54,7 +54,7 @@ def errors(wrong, log):
 def complaint(wrong):
     first = next(errors(wrong, log_of(wrong)), None)
     if first is None:
-        return "is not refused there"
+        return "is not refused there: if what that rests on is wrong in this file too, it belongs in another"
     if NOTHING.search(first.split("was found. Every way was tried")[0]) or not FACT.search(first):
         return "is refused, and not because a fact fails: " + first[:300]
     return None
