@@ -13,7 +13,7 @@ from collections import Counter, namedtuple
 import second
 
 BUILT, WORK = (os.path.abspath(folder) for folder in sys.argv[1:3])
-ROOT = os.path.dirname(os.path.dirname(os.path.abspath(__file__)))
+ROOT = os.path.abspath(os.path.join(os.path.dirname(__file__), "..", ".."))
 OPTIONS = second.Options(12, 20, 512, 1, 0, 0)
 TOTAL = second.total_size(OPTIONS)
 BATCH = 64

@@ -5,7 +5,10 @@ usage: bench_test.py BUILT WORK
 """
 
 import os
+import sys
 import time
+
+sys.path.append(sys.path[0] + "/../second")
 
 import second
 from bench_kills import calls_of, kills, power_cuts

@@ -11,11 +11,13 @@ import time
 from collections import defaultdict
 from copy import copy
 
+sys.path.append(sys.path[0] + "/../second")
+
 import native
 import second
 from images import Images
 
-CRATES = os.path.join(os.path.dirname(os.path.dirname(os.path.abspath(__file__))), "crates")
+CRATES = os.path.abspath(os.path.join(os.path.dirname(__file__), "..", "..", "crates"))
 # the calls, by what demand 1 names them
 JUDGED = {"create": "create", "open": "open_check", "begin": "begin", "commit": "commit", "checkpoint": "checkpoint",
           "invalidate": "invalidate", "user-slice": "set_user_fields", "lookup": "lookup", "scan": "scan", "match": "match",

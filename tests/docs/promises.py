@@ -6,6 +6,8 @@ import os
 import re
 import sys
 
+sys.path.append(sys.path[0] + "/../proofs")
+
 from wrong_programs import ROOT, crates, wrong_programs
 
 OUTSIDE = ("tests/", "tools/", "examples/", "docs/", "include/", ".ci/", "crates.txt")
@@ -73,7 +75,7 @@ def complaints():
     promises, audit = read("docs/promises.md"), read("docs/audit.md")
     named = set(names(promises))
     calls = set(re.findall(r"\bslc1_\w+(?=\()", read("include/slc1.h")))
-    experiments = set(re.findall(r'^    "(\w+)": Experiment', read("tests/experiments.py"), re.M))
+    experiments = set(re.findall(r'^    "(\w+)": Experiment', read("tests/proofs/experiments.py"), re.M))
     yield from (f"docs/promises.md does not name {name}" for name in sorted((known | calls) - named))
     yield from (f"docs/audit.md does not name {name}" for name in sorted(experiments - set(names(audit))))
     for file, text in (("docs/promises.md", promises), ("docs/audit.md", audit)):

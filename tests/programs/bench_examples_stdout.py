@@ -1,5 +1,9 @@
 """Writes what the program bench_examples must print, as the second program answers it."""
 
+import sys
+
+sys.path.append(sys.path[0] + "/../second")
+
 import second
 
 

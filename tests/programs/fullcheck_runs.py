@@ -11,10 +11,12 @@ import shutil
 import subprocess
 import sys
 
+sys.path.append(sys.path[0] + "/../second")
+
 import second
 from images import Images
 
-ROOT = os.path.dirname(os.path.dirname(os.path.abspath(__file__)))
+ROOT = os.path.abspath(os.path.join(os.path.dirname(__file__), "..", ".."))
 STORED = os.path.join(ROOT, "crates", "fullcheck")
 BENCH = second.Options(12, 20, 512, 1, 0, 2)
 

@@ -15,7 +15,7 @@ WINDOW = (U64, U64)
 
 def load():
     here = os.path.dirname(os.path.abspath(__file__))
-    return ctypes.CDLL(os.path.join(here, "..", "target", "native", "libslc1.so"))
+    return ctypes.CDLL(os.path.join(here, "..", "..", "target", "native", "libslc1.so"))
 
 
 LIBRARY = load()

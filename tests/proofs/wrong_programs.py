@@ -8,7 +8,7 @@ refused, and then its edits:
 import os
 from collections import namedtuple
 
-ROOT = os.path.dirname(os.path.dirname(os.path.abspath(__file__)))
+ROOT = os.path.abspath(os.path.join(os.path.dirname(__file__), "..", ".."))
 
 Wrong = namedtuple("Wrong", "crate edit name kind where")
 

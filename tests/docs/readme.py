@@ -6,6 +6,8 @@ import re
 import subprocess
 import sys
 
+sys.path.append(sys.path[0] + "/../proofs")
+
 from wrong_programs import ROOT, crates
 
 WORK = os.path.join(ROOT, "target", "readme")

@@ -7,10 +7,12 @@ import os
 import re
 import sys
 
+sys.path.append(sys.path[0] + "/../second")
+
 import native
 import second
 
-PAGE = os.path.join(os.path.dirname(os.path.dirname(os.path.abspath(__file__))), "docs", "format.md")
+PAGE = os.path.abspath(os.path.join(os.path.dirname(__file__), "..", "..", "docs", "format.md"))
 BENCH = second.Options(12, 20, 512, 1, 0, 2)
 
 
