@@ -26,7 +26,7 @@ def rows(text):
     """Each row of a table of three columns, its last column's heading before it."""
     heading = None
     for line in text.splitlines():
-        cells = [cell.strip() for cell in line[2:].rstrip(" |").split(" | ")] if line.startswith("| ") else []
+        cells = [cell.strip() for cell in line.strip("|").split(" | ")] if line.startswith("| ") else []
         if len(cells) != 3:
             heading = heading if line.startswith("|-") else None
         elif heading is None:
