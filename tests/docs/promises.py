@@ -10,7 +10,7 @@ sys.path.append(sys.path[0] + "/../proofs")
 
 from wrong_programs import ROOT, crates, wrong_programs
 
-OUTSIDE = ("tests/", "tools/", "examples/", "docs/", "include/", ".ci/", "crates.txt")
+OUTSIDE = ("crates/", "tests/", "tools/", "examples/", "docs/", "include/", "target/", ".ci/", "crates.txt")
 
 
 def read(path):
@@ -35,10 +35,10 @@ def rows(text):
             yield heading, cells
 
 
-def files(cell):
-    """The files that a cell names; one without a folder stands in the folder of the one before it."""
+def files(named):
+    """The files of a cell's or a paragraph's names; one without a folder stands in the folder of the one before it."""
     folder = ""
-    for name in names(cell):
+    for name in named:
         path = name if name.startswith(OUTSIDE) else "crates/" + name if "/" in name else f"{folder}/{name}"
         folder = os.path.dirname(path)
         yield path
@@ -55,7 +55,7 @@ def table_complaints(text, known, tried):
     """tried: for each call of slc1.h, its wrong programs."""
     for heading, (first, second, third) in rows(text):
         if heading == "file" and third:
-            paths = list(files(third))
+            paths = list(files(names(third)))
             missing = [path for path in paths if not os.path.exists(os.path.join(ROOT, path))]
             yield from (f"{path} is not there" for path in missing)
             if not missing:
@@ -82,9 +82,10 @@ def complaints():
         yield from (f"{file}: {said}" for said in table_complaints(text, known | set(crates()), tried))
 
 
-found = list(complaints())
-for complaint in found:
-    print(complaint)
-if found:
-    sys.exit(1)
-print("docs/promises.md and docs/audit.md name what is there, and promises.md every wrong program")
+if __name__ == "__main__":
+    found = list(complaints())
+    for complaint in found:
+        print(complaint)
+    if found:
+        sys.exit(1)
+    print("docs/promises.md and docs/audit.md name what is there, and promises.md every wrong program")
