@@ -4,7 +4,7 @@ ghost use Prim.Native.Nat.{_+_, _^_, _<_};
 ghost use Rattle.header.specs.Fields.{value, generation};
 ghost use Rattle.header.specs.FirstOf.{firstOf};
 ghost use Rattle.header.specs.Shaped.{Shaped};
-ghost use Rattle.writing.specs.Write.{unless};
+ghost use Rattle.writing.specs.Write.{Leaves, unless};
 ghost use Rattle.applying.specs.Apply.{committed};
 ghost use Rattle.commit.specs.Commit.{furtherTests, commitOf};
 use crate::tests::room_test;
@@ -32,7 +32,7 @@ const LAST_GENERATION: u64 = 18446744073709551614;
 fn commit_in(image: &mut [u8], s: Shape, batch: &[u8]) -> u32
     requires { ⌜ Shaped s (now image) ⌝ }
     requires { ⌜ value (now image) generation + 2 < 2 ^ 64 ⌝ }
-    ensures { λ r. ⌜ (r ≡ unless (firstOf (furtherTests s (now (image .entry)) (now (batch .entry)))) (now (image .entry)) (committed s (now (image .entry)) (now (batch .entry))) .answer) × (now (image .exit) ≡ unless (firstOf (furtherTests s (now (image .entry)) (now (batch .entry)))) (now (image .entry)) (committed s (now (image .entry)) (now (batch .entry))) .image) ⌝ }
+    ensures { λ r. ⌜ Leaves (unless (firstOf (furtherTests s (now (image .entry)) (now (batch .entry)))) (now (image .entry)) (committed s (now (image .entry)) (now (batch .entry)))) r (now (image .exit)) ⌝ }
 {
     let sound = sound_test(image, s, batch);
     if sound != DONE {
@@ -51,7 +51,7 @@ fn commit_in(image: &mut [u8], s: Shape, batch: &[u8]) -> u32
 
 // Commits a batch to a DIRTY image. Any answer but 0 leaves every byte alone.
 pub fn commit_batch(image: &mut [u8], o: Options, batch: &[u8]) -> u32
-    ensures { λ r. ⌜ (r ≡ commitOf o (now (image .entry)) (now (batch .entry)) .answer) × (now (image .exit) ≡ commitOf o (now (image .entry)) (now (batch .entry)) .image) ⌝ }
+    ensures { λ r. ⌜ Leaves (commitOf o (now (image .entry)) (now (batch .entry))) r (now (image .exit)) ⌝ }
 {
     match writer(image, o) {
         Judged::Fit(shape) => {

@@ -2,6 +2,7 @@
 -- Assumes nothing.
 use Prim.Native.Nat.{ℕ}
 use mathlib.Core.Bool.{cond}
+use mathlib.Core.Path.{_≡_}
 use mathlib.Core.List.{List}
 use lib.Dec.{eqb, ltb}
 use lib.ListN.{length}
@@ -20,6 +21,10 @@ pub record Filled : Type 0 where
 
 abbrev pub filled : ℕ → List ℕ → Filled
 filled answer bytes = record { answer = answer; bytes = bytes }
+
+-- the call answers what is said there, and leaves those bytes in the buffer
+abbrev pub Fills : Filled → ℕ → List ℕ → Type 0
+Fills f answer bytes = (answer ≡ f .answer) × (bytes ≡ f .bytes)
 
 -- "The 64 user bytes" with 0; "lent output too short: 11"
 unfoldable pub userDataOf : Options → List ℕ → List ℕ → Filled

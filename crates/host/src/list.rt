@@ -1,5 +1,6 @@
 // Scan and match: a call for each of their numbers. Each makes the whole call, and fills the lent list.
 ghost use mathlib.Core.Path.{_≡_};
+ghost use Rattle.host.specs.Listing.{Hands};
 ghost use Rattle.host.specs.Options.{optionsOf};
 ghost use Rattle.listing.specs.Match.{matchOf};
 ghost use Rattle.listing.specs.Scan.{scanOf};
@@ -21,7 +22,7 @@ pub extern "C" fn slc1_scan(
     limit: u64,
     numbers: &mut [u32],
 ) -> u32
-    ensures { λ r. ⌜ (r ≡ scanOf (optionsOf «key_size» «index_size» «slot_capacity» «user_version» ordered role) (now (image .entry)) skip limit (now (numbers .entry)) .listed .answer) × (now (numbers .exit) ≡ scanOf (optionsOf «key_size» «index_size» «slot_capacity» «user_version» ordered role) (now (image .entry)) skip limit (now (numbers .entry)) .numbers) ⌝ }
+    ensures { λ r. ⌜ Hands (λ l. l .answer) (scanOf (optionsOf «key_size» «index_size» «slot_capacity» «user_version» ordered role) (now (image .entry)) skip limit (now (numbers .entry))) r (now (numbers .exit)) ⌝ }
 {
     let listed = scan(
         image,
@@ -54,7 +55,7 @@ pub extern "C" fn slc1_scan_total(
     limit: u64,
     numbers: &mut [u32],
 ) -> u64
-    ensures { λ r. ⌜ (r ≡ scanOf (optionsOf «key_size» «index_size» «slot_capacity» «user_version» ordered role) (now (image .entry)) skip limit (now (numbers .entry)) .listed .total) × (now (numbers .exit) ≡ scanOf (optionsOf «key_size» «index_size» «slot_capacity» «user_version» ordered role) (now (image .entry)) skip limit (now (numbers .entry)) .numbers) ⌝ }
+    ensures { λ r. ⌜ Hands (λ l. l .total) (scanOf (optionsOf «key_size» «index_size» «slot_capacity» «user_version» ordered role) (now (image .entry)) skip limit (now (numbers .entry))) r (now (numbers .exit)) ⌝ }
 {
     let listed = scan(
         image,
@@ -87,7 +88,7 @@ pub extern "C" fn slc1_scan_written(
     limit: u64,
     numbers: &mut [u32],
 ) -> u64
-    ensures { λ r. ⌜ (r ≡ scanOf (optionsOf «key_size» «index_size» «slot_capacity» «user_version» ordered role) (now (image .entry)) skip limit (now (numbers .entry)) .listed .written) × (now (numbers .exit) ≡ scanOf (optionsOf «key_size» «index_size» «slot_capacity» «user_version» ordered role) (now (image .entry)) skip limit (now (numbers .entry)) .numbers) ⌝ }
+    ensures { λ r. ⌜ Hands (λ l. l .written) (scanOf (optionsOf «key_size» «index_size» «slot_capacity» «user_version» ordered role) (now (image .entry)) skip limit (now (numbers .entry))) r (now (numbers .exit)) ⌝ }
 {
     let listed = scan(
         image,
@@ -123,7 +124,7 @@ pub extern "C" fn slc1_match(
     limit: u64,
     numbers: &mut [u32],
 ) -> u32
-    ensures { λ r. ⌜ (r ≡ matchOf (optionsOf «key_size» «index_size» «slot_capacity» «user_version» ordered role) (now (image .entry)) offset bits (now (pattern .entry)) skip limit (now (numbers .entry)) .listed .answer) × (now (numbers .exit) ≡ matchOf (optionsOf «key_size» «index_size» «slot_capacity» «user_version» ordered role) (now (image .entry)) offset bits (now (pattern .entry)) skip limit (now (numbers .entry)) .numbers) ⌝ }
+    ensures { λ r. ⌜ Hands (λ l. l .answer) (matchOf (optionsOf «key_size» «index_size» «slot_capacity» «user_version» ordered role) (now (image .entry)) offset bits (now (pattern .entry)) skip limit (now (numbers .entry))) r (now (numbers .exit)) ⌝ }
 {
     let matched = match_bits(
         image,
@@ -162,7 +163,7 @@ pub extern "C" fn slc1_match_total(
     limit: u64,
     numbers: &mut [u32],
 ) -> u64
-    ensures { λ r. ⌜ (r ≡ matchOf (optionsOf «key_size» «index_size» «slot_capacity» «user_version» ordered role) (now (image .entry)) offset bits (now (pattern .entry)) skip limit (now (numbers .entry)) .listed .total) × (now (numbers .exit) ≡ matchOf (optionsOf «key_size» «index_size» «slot_capacity» «user_version» ordered role) (now (image .entry)) offset bits (now (pattern .entry)) skip limit (now (numbers .entry)) .numbers) ⌝ }
+    ensures { λ r. ⌜ Hands (λ l. l .total) (matchOf (optionsOf «key_size» «index_size» «slot_capacity» «user_version» ordered role) (now (image .entry)) offset bits (now (pattern .entry)) skip limit (now (numbers .entry))) r (now (numbers .exit)) ⌝ }
 {
     let matched = match_bits(
         image,
@@ -201,7 +202,7 @@ pub extern "C" fn slc1_match_written(
     limit: u64,
     numbers: &mut [u32],
 ) -> u64
-    ensures { λ r. ⌜ (r ≡ matchOf (optionsOf «key_size» «index_size» «slot_capacity» «user_version» ordered role) (now (image .entry)) offset bits (now (pattern .entry)) skip limit (now (numbers .entry)) .listed .written) × (now (numbers .exit) ≡ matchOf (optionsOf «key_size» «index_size» «slot_capacity» «user_version» ordered role) (now (image .entry)) offset bits (now (pattern .entry)) skip limit (now (numbers .entry)) .numbers) ⌝ }
+    ensures { λ r. ⌜ Hands (λ l. l .written) (matchOf (optionsOf «key_size» «index_size» «slot_capacity» «user_version» ordered role) (now (image .entry)) offset bits (now (pattern .entry)) skip limit (now (numbers .entry))) r (now (numbers .exit)) ⌝ }
 {
     let matched = match_bits(
         image,

@@ -2,7 +2,7 @@
 ghost use mathlib.Core.Path.{_≡_};
 ghost use Rattle.host.specs.Options.{optionsOf};
 ghost use Rattle.header.specs.Open.{openOf};
-ghost use Rattle.host.specs.UserData.{userDataOf};
+ghost use Rattle.host.specs.UserData.{Fills, userDataOf};
 use header::answer::DONE;
 use header::answer::TOO_SHORT;
 use header::open::open_check;
@@ -77,7 +77,7 @@ pub extern "C" fn slc1_user_data(
     role: u64,
     out: &mut [u8],
 ) -> u32
-    ensures { λ r. ⌜ (r ≡ userDataOf (optionsOf «key_size» «index_size» «slot_capacity» «user_version» ordered role) (now (image .entry)) (now (out .entry)) .answer) × (now (out .exit) ≡ userDataOf (optionsOf «key_size» «index_size» «slot_capacity» «user_version» ordered role) (now (image .entry)) (now (out .entry)) .bytes) ⌝ }
+    ensures { λ r. ⌜ Fills (userDataOf (optionsOf «key_size» «index_size» «slot_capacity» «user_version» ordered role) (now (image .entry)) (now (out .entry))) r (now (out .exit)) ⌝ }
 {
     let opened = open_check(
         image,

@@ -4,6 +4,7 @@ ghost use Rattle.header.specs.Answer.{invalid-input};
 ghost use Rattle.header.specs.HeaderTest.{headerTest, afterTest};
 ghost use Rattle.commit.specs.Commit.{commitOf};
 ghost use Rattle.writing.specs.Create.{createOf};
+ghost use Rattle.writing.specs.Write.{Leaves};
 ghost use Rattle.writing.specs.State.{beginOf, checkpointOf, invalidateOf};
 ghost use Rattle.host.specs.Options.{optionsOf};
 ghost use Rattle.host.specs.UserData.{setUserFieldsFrom};
@@ -31,7 +32,7 @@ pub extern "C" fn slc1_create(
     ordered: u64,
     role: u64,
 ) -> u32
-    ensures { λ r. ⌜ (r ≡ createOf (optionsOf «key_size» «index_size» «slot_capacity» «user_version» ordered role) (now (buffer .entry)) .answer) × (now (buffer .exit) ≡ createOf (optionsOf «key_size» «index_size» «slot_capacity» «user_version» ordered role) (now (buffer .entry)) .image) ⌝ }
+    ensures { λ r. ⌜ Leaves (createOf (optionsOf «key_size» «index_size» «slot_capacity» «user_version» ordered role) (now (buffer .entry))) r (now (buffer .exit)) ⌝ }
 {
     create(
         buffer,
@@ -57,7 +58,7 @@ pub extern "C" fn slc1_begin(
     ordered: u64,
     role: u64,
 ) -> u32
-    ensures { λ r. ⌜ (r ≡ beginOf (optionsOf «key_size» «index_size» «slot_capacity» «user_version» ordered role) (now (image .entry)) .answer) × (now (image .exit) ≡ beginOf (optionsOf «key_size» «index_size» «slot_capacity» «user_version» ordered role) (now (image .entry)) .image) ⌝ }
+    ensures { λ r. ⌜ Leaves (beginOf (optionsOf «key_size» «index_size» «slot_capacity» «user_version» ordered role) (now (image .entry))) r (now (image .exit)) ⌝ }
 {
     begin(
         image,
@@ -83,7 +84,7 @@ pub extern "C" fn slc1_checkpoint(
     ordered: u64,
     role: u64,
 ) -> u32
-    ensures { λ r. ⌜ (r ≡ checkpointOf (optionsOf «key_size» «index_size» «slot_capacity» «user_version» ordered role) (now (image .entry)) .answer) × (now (image .exit) ≡ checkpointOf (optionsOf «key_size» «index_size» «slot_capacity» «user_version» ordered role) (now (image .entry)) .image) ⌝ }
+    ensures { λ r. ⌜ Leaves (checkpointOf (optionsOf «key_size» «index_size» «slot_capacity» «user_version» ordered role) (now (image .entry))) r (now (image .exit)) ⌝ }
 {
     checkpoint(
         image,
@@ -109,7 +110,7 @@ pub extern "C" fn slc1_invalidate(
     ordered: u64,
     role: u64,
 ) -> u32
-    ensures { λ r. ⌜ (r ≡ invalidateOf (optionsOf «key_size» «index_size» «slot_capacity» «user_version» ordered role) (now (image .entry)) .answer) × (now (image .exit) ≡ invalidateOf (optionsOf «key_size» «index_size» «slot_capacity» «user_version» ordered role) (now (image .entry)) .image) ⌝ }
+    ensures { λ r. ⌜ Leaves (invalidateOf (optionsOf «key_size» «index_size» «slot_capacity» «user_version» ordered role) (now (image .entry))) r (now (image .exit)) ⌝ }
 {
     invalidate(
         image,
@@ -147,7 +148,7 @@ pub extern "C" fn slc1_set_user_fields(
     user_flags: u64,
     user_data: &[u8],
 ) -> u32
-    ensures { λ r. ⌜ (r ≡ setUserFieldsFrom (optionsOf «key_size» «index_size» «slot_capacity» «user_version» ordered role) (now (image .entry)) «user_flags» (now («user_data» .entry)) .answer) × (now (image .exit) ≡ setUserFieldsFrom (optionsOf «key_size» «index_size» «slot_capacity» «user_version» ordered role) (now (image .entry)) «user_flags» (now («user_data» .entry)) .image) ⌝ }
+    ensures { λ r. ⌜ Leaves (setUserFieldsFrom (optionsOf «key_size» «index_size» «slot_capacity» «user_version» ordered role) (now (image .entry)) «user_flags» (now («user_data» .entry))) r (now (image .exit)) ⌝ }
 {
     let o = Options {
         key_size,
@@ -184,7 +185,7 @@ pub extern "C" fn slc1_commit(
     role: u64,
     batch: &[u8],
 ) -> u32
-    ensures { λ r. ⌜ (r ≡ commitOf (optionsOf «key_size» «index_size» «slot_capacity» «user_version» ordered role) (now (image .entry)) (now (batch .entry)) .answer) × (now (image .exit) ≡ commitOf (optionsOf «key_size» «index_size» «slot_capacity» «user_version» ordered role) (now (image .entry)) (now (batch .entry)) .image) ⌝ }
+    ensures { λ r. ⌜ Leaves (commitOf (optionsOf «key_size» «index_size» «slot_capacity» «user_version» ordered role) (now (image .entry)) (now (batch .entry))) r (now (image .exit)) ⌝ }
 {
     commit_batch(
         image,

@@ -2,6 +2,7 @@
 -- Assumes nothing.
 use Prim.Native.Nat.{ℕ, zero, suc}
 use mathlib.Core.Bool.{Bool, true, cond, _&&_}
+use mathlib.Core.Path.{_≡_}
 use mathlib.Core.List.{List, [], _∷_, _++_}
 use lib.Dec.{eqb, ltb}
 use lib.ListN.{length, take, drop}
@@ -30,6 +31,10 @@ chosen all skip limit = take limit (drop skip all)
 pub record Outcome : Type 0 where
   pub listed : Listed
   pub numbers : List ℕ
+
+-- the call answers what the outcome says, and leaves its numbers in the lent list
+abbrev pub Lists : Outcome → Listed → List ℕ → Type 0
+Lists x listed numbers = (listed ≡ x .listed) × (numbers ≡ x .numbers)
 
 -- "all else returned is 0"; the list is unchanged
 abbrev pub refused : List ℕ → ℕ → Outcome

@@ -2,6 +2,7 @@
 ghost use mathlib.Core.Path.{_≡_};
 ghost use Prim.Native.Nat.{_+_, _/_};
 ghost use Rattle.header.specs.Shaped.{Shaped};
+ghost use Rattle.listing.specs.Scan.{Lists};
 ghost use Rattle.listing.specs.Match.{patternWrong, matchIn, matchOf};
 use crate::listed::Listed;
 use crate::listed::refused;
@@ -48,8 +49,7 @@ fn match_in(
     numbers: &mut [u32],
 ) -> Listed
     requires { ⌜ Shaped s (now image) ⌝ }
-    ensures { λ r. ⌜ r ≡ matchIn s (now (image .entry)) offset bits (now (pattern .entry)) skip limit (now (numbers .entry)) .listed ⌝ }
-    ensures { λ r. ⌜ now (numbers .exit) ≡ matchIn s (now (image .entry)) offset bits (now (pattern .entry)) skip limit (now (numbers .entry)) .numbers ⌝ }
+    ensures { λ r. ⌜ Lists (matchIn s (now (image .entry)) offset bits (now (pattern .entry)) skip limit (now (numbers .entry))) r (now (numbers .exit)) ⌝ }
 {
     if pattern_wrong(s, offset, bits, pattern) {
         return refused(INVALID_INPUT);
@@ -79,7 +79,7 @@ pub fn match_bits(
     limit: u64,
     numbers: &mut [u32],
 ) -> Listed
-    ensures { λ r. ⌜ (r ≡ matchOf o (now (image .entry)) offset bits (now (pattern .entry)) skip limit (now (numbers .entry)) .listed) × (now (numbers .exit) ≡ matchOf o (now (image .entry)) offset bits (now (pattern .entry)) skip limit (now (numbers .entry)) .numbers) ⌝ }
+    ensures { λ r. ⌜ Lists (matchOf o (now (image .entry)) offset bits (now (pattern .entry)) skip limit (now (numbers .entry))) r (now (numbers .exit)) ⌝ }
 {
     let judged = judge(image, o);
     match judged {

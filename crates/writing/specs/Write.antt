@@ -1,6 +1,7 @@
 -- Header fields written, and what a call that writes leaves behind.
 -- Assumes nothing.
 use Prim.Native.Nat.{ℕ, zero, suc}
+use mathlib.Core.Path.{_≡_}
 use mathlib.Core.List.{List, [], _∷_}
 use Rattle.numbers.specs.Bytes.{bytesOf, put}
 use Rattle.digests.specs.Crc.{headerCrc}
@@ -23,6 +24,10 @@ sealed image = withField image F.header-crc32c (headerCrc image)
 pub record Written : Type 0 where
   pub answer : ℕ
   pub image : List ℕ
+
+-- the call answers what is written there, and leaves that image
+abbrev pub Leaves : Written → ℕ → List ℕ → Type 0
+Leaves w answer image = (answer ≡ w .answer) × (image ≡ w .image)
 
 -- by the number of the first test that holds: done, or "Any number but 0 leaves every lent byte alone"
 abbrev pub unless : ℕ → List ℕ → List ℕ → Written

@@ -5,7 +5,7 @@ ghost use mathlib.Core.List.{_++_};
 ghost use Prim.Native.Nat.{_≤_};
 ghost use lib.ListN.{length, take, drop};
 ghost use Rattle.header.specs.Sizes.{sizesAllowed, most-key-size, most-index-size, totalSize};
-ghost use Rattle.writing.specs.Write.{withFields};
+ghost use Rattle.writing.specs.Write.{withFields, Leaves};
 ghost use Rattle.writing.specs.Create.{freshFields, fresh, createOf};
 use crate::fields::seal;
 use crate::fields::write;
@@ -74,7 +74,7 @@ fn make(buffer: &mut [u8], o: Options, total: usize)
 
 // Answers 0 with a fresh image in the buffer, its bytes past the total unchanged. Refused, it leaves every byte alone.
 pub fn create(buffer: &mut [u8], o: Options) -> u32
-    ensures { λ r. ⌜ (r ≡ createOf o (now (buffer .entry)) .answer) × (now (buffer .exit) ≡ createOf o (now (buffer .entry)) .image) ⌝ }
+    ensures { λ r. ⌜ Leaves (createOf o (now (buffer .entry))) r (now (buffer .exit)) ⌝ }
 {
     let refused = options_test(o);
     if refused != DONE {

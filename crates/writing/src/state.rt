@@ -6,7 +6,7 @@ ghost use lib.ListN.{length};
 ghost use Rattle.header.specs.Fields.{value, generation as generation-name, state as state-name, user-flags};
 ghost use Rattle.header.specs.FirstOf.{firstOf};
 ghost use Rattle.header.specs.HeaderTest.{shapeOf, verdict};
-ghost use Rattle.writing.specs.Write.{unless};
+ghost use Rattle.writing.specs.Write.{Leaves, unless};
 ghost use Rattle.writing.specs.State.{writingTests, last-generation, inState, published, withUserData, beginOf, checkpointOf, invalidateOf, setUserFieldsOf};
 use crate::fields::seal;
 use crate::fields::write;
@@ -67,7 +67,7 @@ fn turn(image: &mut [u8], from: u64, to: u64)
 // Makes the writing tests and, where they pass, changes the state.
 fn change_state(image: &mut [u8], o: Options, state: u64) -> u32
     requires { ⌜ state < 2 ^ 32 ⌝ }
-    ensures { λ r. ⌜ (r ≡ unless (firstOf (writingTests o (now (image .entry)))) (now (image .entry)) (inState (now (image .entry)) state) .answer) × (now (image .exit) ≡ unless (firstOf (writingTests o (now (image .entry)))) (now (image .entry)) (inState (now (image .entry)) state) .image) ⌝ }
+    ensures { λ r. ⌜ Leaves (unless (firstOf (writingTests o (now (image .entry)))) (now (image .entry)) (inState (now (image .entry)) state)) r (now (image .exit)) ⌝ }
 {
     match writer(image, o) {
         Judged::Fit(shape) => {
@@ -80,14 +80,14 @@ fn change_state(image: &mut [u8], o: Options, state: u64) -> u32
 
 // Makes a CLEAN image DIRTY. Any answer but 0 leaves every byte alone.
 pub fn begin(image: &mut [u8], o: Options) -> u32
-    ensures { λ r. ⌜ (r ≡ beginOf o (now (image .entry)) .answer) × (now (image .exit) ≡ beginOf o (now (image .entry)) .image) ⌝ }
+    ensures { λ r. ⌜ Leaves (beginOf o (now (image .entry))) r (now (image .exit)) ⌝ }
 {
     change_state(image, o, DIRTY)
 }
 
 // Makes a DIRTY image CLEAN. Any answer but 0 leaves every byte alone.
 pub fn checkpoint(image: &mut [u8], o: Options) -> u32
-    ensures { λ r. ⌜ (r ≡ checkpointOf o (now (image .entry)) .answer) × (now (image .exit) ≡ checkpointOf o (now (image .entry)) .image) ⌝ }
+    ensures { λ r. ⌜ Leaves (checkpointOf o (now (image .entry))) r (now (image .exit)) ⌝ }
 {
     change_state(image, o, CLEAN)
 }
@@ -104,7 +104,7 @@ fn put_invalidated(image: &mut [u8], generation: u64)
 
 // Makes a CLEAN or DIRTY image INVALIDATED. Any answer but 0 leaves every byte alone.
 pub fn invalidate(image: &mut [u8], o: Options) -> u32
-    ensures { λ r. ⌜ (r ≡ invalidateOf o (now (image .entry)) .answer) × (now (image .exit) ≡ invalidateOf o (now (image .entry)) .image) ⌝ }
+    ensures { λ r. ⌜ Leaves (invalidateOf o (now (image .entry))) r (now (image .exit)) ⌝ }
 {
     match writer(image, o) {
         Judged::Fit(shape) => {
@@ -142,7 +142,7 @@ fn put_user_fields(image: &mut [u8], generation: u64, fields: UserFields)
 
 // Replaces the user fields of a DIRTY image. Any answer but 0 leaves every byte alone.
 pub fn set_user_fields(image: &mut [u8], o: Options, fields: UserFields) -> u32
-    ensures { λ r. ⌜ (r ≡ setUserFieldsOf o (now (image .entry)) fields .answer) × (now (image .exit) ≡ setUserFieldsOf o (now (image .entry)) fields .image) ⌝ }
+    ensures { λ r. ⌜ Leaves (setUserFieldsOf o (now (image .entry)) fields) r (now (image .exit)) ⌝ }
 {
     match writer(image, o) {
         Judged::Fit(shape) => {
