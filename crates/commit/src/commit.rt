@@ -15,18 +15,10 @@ use batch::news::find_news;
 use batch::news::mark_news;
 use batch::news::news_below;
 use header::answer::DONE;
-use header::answer::INVALID_INPUT;
-use header::answer::NEEDS_REBUILD;
 use header::options::Options;
 use header::shape::Judged;
 use header::shape::Shape;
-use writing::state::writer;
-
-// The state of an image that no writer has open.
-const CLEAN: u64 = 0;
-
-// No even generation comes after this one.
-const LAST_GENERATION: u64 = 18446744073709551614;
+use writing::judge::judge_change;
 
 // Makes the further tests and, where they pass, commits the batch. Any answer but 0 leaves every byte alone.
 fn commit_in(image: &mut [u8], s: Shape, batch: &[u8]) -> u32
@@ -53,16 +45,8 @@ fn commit_in(image: &mut [u8], s: Shape, batch: &[u8]) -> u32
 pub fn commit_batch(image: &mut [u8], o: Options, batch: &[u8]) -> u32
     ensures { λ r. ⌜ Leaves (commitOf o (now (image .entry)) (now (batch .entry))) r (now (image .exit)) ⌝ }
 {
-    match writer(image, o) {
-        Judged::Fit(shape) => {
-            if shape.state == CLEAN {
-                return INVALID_INPUT;
-            }
-            if shape.generation == LAST_GENERATION {
-                return NEEDS_REBUILD;
-            }
-            commit_in(image, shape, batch)
-        }
+    match judge_change(image, o) {
+        Judged::Fit(shape) => commit_in(image, shape, batch),
         Judged::Refused(number) => number,
     }
 }

@@ -48,7 +48,8 @@ use Rattle.image.proofs.probe.probe_for.Reads as probe-for-reads
 use Rattle.listing.proofs.listed.refused.Reads as refused-reads
 use Rattle.writing.proofs.fields.write.Reads as write-reads
 use Rattle.writing.proofs.fields.seal.Reads as seal-reads
-use Rattle.writing.proofs.state.writer.Reads as writer-reads
+use Rattle.writing.proofs.judge.judge_writer.Reads as judge-writer-reads
+use Rattle.writing.proofs.judge.judge_change.Reads as judge-change-reads
 use Rattle.slots.proofs.slots.rewrite.Reads as rewrite-reads
 use Rattle.slots.proofs.slots.remove.Reads as remove-reads
 use Rattle.slots.proofs.slots.index_slot.Reads as index-slot-reads
@@ -138,8 +139,9 @@ pub record Outcomes : Type 2 where
   -- writing, fields
   pub write : One write-reads.Post (λ κ x e. now (arg1 e))
   pub seal : One seal-reads.Post (λ κ x e. now (arg1 e))
-  -- writing, state
-  pub writer : One writer-reads.Post (λ κ x e. x)
+  -- writing, judge
+  pub judge-writer : One judge-writer-reads.Post (λ κ x e. x)
+  pub judge-change : One judge-change-reads.Post (λ κ x e. x)
   -- slots, slots
   pub rewrite : One rewrite-reads.Post (λ κ x e. now (arg1 e))
   pub remove : One remove-reads.Post (λ κ x e. now (arg1 e))

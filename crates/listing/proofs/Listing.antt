@@ -8,7 +8,7 @@ use lib.ListN.{length, take, drop, length-drop, length-take}
 use borrow.Author.Tests.{lt-ltb, le-ltb}
 use Rattle.listing.specs.declared.listed.Listed.{Listed}
 use Rattle.header.specs.Answer.{done, too-short}
-use Rattle.listing.specs.Scan.{Outcome, refused, chosen, write, list}
+use Rattle.listing.specs.Scan.{Outcome, Lists, refused, chosen, write, list}
 
 -- no more can be taken than there are
 take-min : (n : ℕ) (l : List ℕ) → take n l ≡ take (min n (length l)) l
@@ -20,8 +20,7 @@ take-min (suc n) (x ∷ xs) =
 
 -- what a call leaves that an outcome says, an equal outcome says
 pub same-outcome :
-    {r : Listed} {l : List ℕ} {o p : Outcome} → p ≡ o → (r ≡ p .listed) × (l ≡ p .numbers)
-    → (r ≡ o .listed) × (l ≡ o .numbers)
+    {r : Listed} {l : List ℕ} {o p : Outcome} → p ≡ o → Lists p r l → Lists o r l
 same-outcome e h = (h .0 ∙ ap (λ (x : Outcome). x .listed) e, h .1 ∙ ap (λ (x : Outcome). x .numbers) e)
 
 -- a listing that is accepted: `count` numbers after the skip, of `total`

@@ -4,7 +4,7 @@ use Prim.Native.Nat.{ℕ, zero, suc}
 use mathlib.Core.Path.{_≡_, refl}
 use mathlib.Core.List.{List}
 use native.Mathlib.Omega.{arith}
-use Rattle.writing.specs.Write.{unless}
+use Rattle.writing.specs.Write.{Leaves, unless}
 
 module _ (image changed : List ℕ) where
   pub answers : (n : ℕ) → unless n image changed .answer ≡ n
@@ -21,10 +21,10 @@ module _ (image changed : List ℕ) where
   refused (suc n) h = refl
 
   -- what code says that answers the number of its tests and leaves every byte alone, and that answers 0 and changes them
-  pub says-refused : (n : ℕ) {r : ℕ} → r ≡ n → (r ≡ 0 → ⊥) → (r ≡ unless n image changed .answer) × (image ≡ unless n image changed .image)
+  pub says-refused : (n : ℕ) {r : ℕ} → r ≡ n → (r ≡ 0 → ⊥) → Leaves (unless n image changed) r image
   says-refused zero e h = absurd (h e)
   says-refused (suc n) e h = (e, refl)
 
-  pub says-accepted : (n : ℕ) {left : List ℕ} → 0 ≡ n → left ≡ changed → (0 ≡ unless n image changed .answer) × (left ≡ unless n image changed .image)
+  pub says-accepted : (n : ℕ) {left : List ℕ} → 0 ≡ n → left ≡ changed → Leaves (unless n image changed) 0 left
   says-accepted zero z e = (refl, e)
   says-accepted (suc n) z e = absurd (omega arith)

@@ -8,6 +8,7 @@ pub mod Kept
 pub mod KeptTable
 pub mod Answers
 pub mod Making
+pub mod Told
 pub mod Roles
 pub mod StateCode
 pub mod MoreTests

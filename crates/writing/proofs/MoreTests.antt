@@ -1,16 +1,17 @@
--- The tests that invalidate and set user fields make behind those of every writing call.
+-- The tests that invalidate, set user fields and commit make behind those of every writing call.
 -- Assumes nothing.
 use Prim.Native.Nat.{ℕ}
 use mathlib.Core.Path.{_≡_, refl, sym, _∙_}
 use mathlib.Core.List.{List, _++_, append-assoc}
-use borrow.Author.Tests.{ne-eqb}
+use borrow.Author.Tests.{eqb-false, ne-eqb}
+use lib.Dec.{eqb}
 use Rattle.header.specs.declared.options.Options.{Options}
 use Rattle.header.specs.Answer.{needs-rebuild, invalid-input}
 use Rattle.header.specs.Fields as F
 use Rattle.header.specs.Fields.{value}
 use Rattle.header.specs.FirstOf.{firstOf}
 use Rattle.header.specs.HeaderTest.{CLEAN}
-use Rattle.header.proofs.Firsts.{first-stops}
+use Rattle.header.proofs.Firsts.{first-stops, first-none, fails}
 use Rattle.writing.specs.State.{writingTests, cleanTest, last-generation, generationTest, invalidateTests, userTests}
 use Rattle.writing.proofs.Tests.{past}
 use Rattle.writing.proofs.Roles.{writing-named}
@@ -54,3 +55,27 @@ module _ (o : Options) (image : List ℕ) where
     pub user-passes : (value image F.state ≡ CLEAN → ⊥) → (value image F.generation ≡ last-generation → ⊥) → firstOf (userTests o image) ≡ 0
     unfolding cleanTest generationTest firstOf
     user-passes h g = user-after-writing ∙ rw (ne-eqb (value image F.state) CLEAN h, ne-eqb (value image F.generation) last-generation g) refl
+
+  -- where none of a change's tests holds, none of any writing call's does, the image is not CLEAN and another generation comes
+  module _ (z : firstOf (userTests o image) ≡ 0) where
+    apart : (firstOf (writingTests o image) ≡ 0) × (firstOf (cleanTest image ++ generationTest image) ≡ 0)
+    unfolding userTests
+    apart = first-none (writingTests o image) (cleanTest image ++ generationTest image) (writing-named o image) (rw append-assoc at z)
+
+    behind : (firstOf (cleanTest image) ≡ 0) × (firstOf (generationTest image) ≡ 0)
+    unfolding cleanTest
+    behind = first-none (cleanTest image) (generationTest image) tt (apart .1)
+
+    pub change-writing : firstOf (writingTests o image) ≡ 0
+    change-writing = apart .0
+
+    pub change-clean : firstOf (cleanTest image) ≡ 0
+    change-clean = behind .0
+
+    pub change-generation : firstOf (generationTest image) ≡ 0
+    change-generation = behind .1
+
+-- "at generation 2^64 - 2": it is not
+pub not-last : (image : List ℕ) → firstOf (generationTest image) ≡ 0 → value image F.generation ≡ last-generation → ⊥
+unfolding generationTest
+not-last image z = eqb-false (value image F.generation) last-generation (fails (eqb (value image F.generation) last-generation) 0 z)

@@ -1,6 +1,6 @@
 -- The tests of the writing calls: the header test, then the role, and what it says that none of them holds.
 -- Assumes nothing.
-use Prim.Native.Nat.{ℕ, zero, suc, _%_, _≤_, _<_}
+use Prim.Native.Nat.{ℕ, _%_, _≤_}
 use mathlib.Core.Path.{_≡_, refl, sym, ap}
 use mathlib.Core.List.{List, [], _∷_}
 use native.Mathlib.Omega.{arith}
@@ -9,22 +9,18 @@ use lib.Dec.{T, eqb}
 use lib.ListN.{length}
 use Rattle.header.specs.declared.options.Options.{Options}
 use Rattle.header.specs.declared.shape.Shape.{Shape}
-use Rattle.header.specs.declared.shape.Judged.{Judged}
 use Rattle.header.specs.declared.shape.Judged.the-variants.{Fit, Refused}
 use Rattle.header.specs.Answer.{busy, invalid-input}
 use Rattle.header.specs.Fields as F
 use Rattle.header.specs.Fields.{value}
 use Rattle.header.specs.FirstOf.{firstOf}
-use Rattle.header.specs.HeaderTest.{test1, test2, test3, test4, test5, test6, test7, test8, test9, test10, test11, test12, headerTests, headerTest, shapeOf, verdict, judged}
+use Rattle.header.specs.HeaderTest.{test1, test2, test3, test4, test5, test6, test7, test8, test9, test10, test11, test12, headerTests, headerTest, judged}
 use Rattle.header.proofs.Firsts.{named, first-stops, first-none}
-use Rattle.header.proofs.Fit.{verdict-fit, verdict-refused, fit-number, fit-shape, refused-number}
+use Rattle.header.proofs.Fit.{fit-number, fit-shape, refused-number}
 use Rattle.header.proofs.Said.{length-passed}
 use Rattle.writing.specs.State.{writingTests}
+use Rattle.writing.proofs.Told.{toldBy, tells-number}
 use Rattle.writing.proofs.Tests.{past, even-passed, Holds, header-holds}
-
-told : (n m : ℕ) (s : Shape) → n ≡ m → 0 < n → Refused n ≡ verdict m s
-told n zero s e h = absurd (omega arith)
-told n (suc m) s e h = ap Refused e
 
 module _ (o : Options) (image : List ℕ) where
   -- no test gives 0
@@ -36,55 +32,31 @@ module _ (o : Options) (image : List ℕ) where
   unfolding writingTests headerTests test1 test2 test3 test4 test5 test6 test7 test8 test9 test10 test11 test12
   writing-named = tt
 
-  -- what a writer is told
-  abbrev pub writerOf : Judged
-  writerOf = verdict (firstOf (writingTests o image)) (shapeOf image)
-
   role-decides : headerTest o image ≡ 0 → firstOf (writingTests o image) ≡ firstOf ((eqb (o .role) 1, busy) ∷ (eqb (o .role) 0, invalid-input) ∷ [])
   unfolding writingTests headerTest
   role-decides z = past (headerTests o image) _ header-named z
 
+  -- what a writer is told, by the judgement and the role
   module _ {s : Shape} (e : judged o image ≡ Fit s) where
-    pub writer-busy : o .role ≡ 1 → Refused 4 ≡ writerOf
+    pub writer-busy : o .role ≡ 1 → Refused busy ≡ toldBy (writingTests o image) image
     unfolding firstOf
     writer-busy h = rw (role-decides (fit-number o image s e), h) refl
 
-    pub writer-unknown : o .role ≡ 0 → Refused 7 ≡ writerOf
+    pub writer-unknown : o .role ≡ 0 → Refused invalid-input ≡ toldBy (writingTests o image) image
     unfolding firstOf
     writer-unknown h = rw (role-decides (fit-number o image s e), h) refl
 
-    pub writer-known : (o .role ≡ 1 → ⊥) → (o .role ≡ 0 → ⊥) → Fit s ≡ writerOf
+    pub writer-known : (o .role ≡ 1 → ⊥) → (o .role ≡ 0 → ⊥) → Fit s ≡ toldBy (writingTests o image) image
     unfolding firstOf
     writer-known h₁ h₀ =
         rw (role-decides (fit-number o image s e), ne-eqb (o .role) 1 h₁, ne-eqb (o .role) 0 h₀) (ap Fit (fit-shape o image s e))
 
-  pub writer-refused : {n : ℕ} → judged o image ≡ Refused n → Refused n ≡ writerOf
+  pub writer-refused : {n : ℕ} → judged o image ≡ Refused n → Refused n ≡ toldBy (writingTests o image) image
   unfolding writingTests headerTest
   writer-refused {n} e =
       let r = refused-number o image n e in
-      told n (firstOf (writingTests o image)) (shapeOf image) (first-stops (headerTests o image) _ (sym (r .0)) (λ z. omega (arith, r .1))) (r .1)
-
-  -- a writer that is told the shape passed every test
-  module _ {s : Shape} (e : writerOf ≡ Fit s) where
-    pub writer-passed : firstOf (writingTests o image) ≡ 0
-    writer-passed = verdict-fit (firstOf (writingTests o image)) s (shapeOf image) e .0
-
-    pub writer-shape : s ≡ shapeOf image
-    writer-shape = verdict-fit (firstOf (writingTests o image)) s (shapeOf image) e .1
-
-    pub writer-state : s .state ≡ value image F.state
-    unfolding shapeOf
-    writer-state = ap (λ (t : Shape). t .state) writer-shape
-
-    pub writer-generation : s .generation ≡ value image F.generation
-    unfolding shapeOf
-    writer-generation = ap (λ (t : Shape). t .generation) writer-shape
-
-  -- one that is told a number is told that of the tests
-  pub writer-number : {n : ℕ} → writerOf ≡ Refused n → (n ≡ firstOf (writingTests o image)) × (n ≡ 0 → ⊥)
-  writer-number {n} e =
-      let r = verdict-refused (firstOf (writingTests o image)) n (shapeOf image) e in
-      (sym (r .0), λ z. omega (arith, r .1))
+      let h : n ≡ 0 → ⊥ = λ z. omega (arith, r .1) in
+      tells-number (writingTests o image) image (first-stops (headerTests o image) _ (sym (r .0)) h) h
 
   -- of an image whose writing tests pass
   module _ (z : firstOf (writingTests o image) ≡ 0) where

@@ -5,7 +5,7 @@ use mathlib.Core.Bool.{Bool, true, false, cond}
 use mathlib.Core.Path.{_≡_, refl, sym, _∙_}
 use mathlib.Core.List.{List, [], _∷_}
 use native.Mathlib.Omega.{arith}
-use borrow.Author.Tests.{eqb-true, eqb-false}
+use borrow.Author.Tests.{eqb-true}
 use lib.Dec.{eqb, lit<, lit≤}
 use lib.ListN.{length}
 use Rattle.header.specs.declared.options.Options.{Options}
@@ -13,15 +13,16 @@ use Rattle.header.specs.Fields as F
 use Rattle.header.specs.Fields.{value}
 use Rattle.header.specs.FirstOf.{firstOf}
 use Rattle.header.specs.HeaderTest.{CLEAN, INVALIDATED, DIRTY, headerTest}
-use Rattle.header.proofs.Firsts.{first-none, fails}
+use Rattle.header.proofs.Firsts.{first-none}
 use Rattle.writing.specs.Write.{withField, withFields, sealed}
-use Rattle.writing.specs.State.{writingTests, generationTest, last-generation, invalidateTests, inState, published, beginOf, checkpointOf, invalidateOf}
+use Rattle.writing.specs.State.{writingTests, generationTest, invalidateTests, inState, published, beginOf, checkpointOf, invalidateOf}
 use Rattle.writing.proofs.Answers.{answers, accepted}
 use Rattle.writing.proofs.Bytes.{Bytes, value-bound}
 use Rattle.writing.proofs.Became.{Became, became-written, became-same}
 use Rattle.writing.proofs.OneField.{Fits}
 use Rattle.writing.proofs.Tests.{even-passed, header-holds}
 use Rattle.writing.proofs.Roles.{writing-named, passed-header, passed-long, passed-even}
+use Rattle.writing.proofs.MoreTests.{not-last}
 
 -- a change of state alone
 state-written : (o : Options) (image : List ℕ) → headerTest o image ≡ 0 → 256 ≤ length image → Bytes image → (state : ℕ) → state ≤ 2
@@ -43,10 +44,7 @@ in-state-became o image z long bytes state low = go (eqb (value image F.state) s
 -- "at generation 2^64 - 2": it is not, so that the next one can be held
 pub next-fits : (image : List ℕ) → Bytes image → 256 ≤ length image → firstOf (generationTest image) ≡ 0 → value image F.generation % 2 ≡ 0
     → Fits F.generation (value image F.generation + 2)
-unfolding generationTest
-next-fits image bytes long z even =
-    let other = eqb-false (value image F.generation) last-generation (fails (eqb (value image F.generation) last-generation) 0 z) in
-    omega (arith, value-bound image bytes long F.generation)
+next-fits image bytes long z even = omega (arith, not-last image z, value-bound image bytes long F.generation)
 
 module _ (o : Options) (image : List ℕ) (bytes : Bytes image) where
   change-became : (state : ℕ) → state ≤ 2 → {image′ : List ℕ} → firstOf (writingTests o image) ≡ 0 → image′ ≡ inState image state

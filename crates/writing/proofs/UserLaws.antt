@@ -3,7 +3,7 @@
 use Prim.Native.Nat.{ℕ, zero, suc, _+_, _≤_}
 use mathlib.Core.Bool.{Bool, true, false, cond}
 use mathlib.Core.Path.{_≡_, refl, sym, ap, _∙_}
-use mathlib.Core.List.{List, [], _∷_, _++_, append-assoc}
+use mathlib.Core.List.{List, [], _∷_}
 use native.Mathlib.Omega.{arith}
 use borrow.Author.Tests.{eqb-false}
 use lib.Dec.{T, eqb, lit≤}
@@ -19,14 +19,15 @@ use Rattle.header.specs.HeaderTest.{CLEAN, INVALIDATED, DIRTY, headerTest}
 use Rattle.header.specs.Open.{userFields}
 use Rattle.header.proofs.Firsts.{first-none, fails}
 use Rattle.writing.specs.Write.{withField, withFields, sealed, unless}
-use Rattle.writing.specs.State.{writingTests, cleanTest, generationTest, userTests, published, inState, beginOf, checkpointOf, withUserData, setUserFieldsOf}
+use Rattle.writing.specs.State.{writingTests, cleanTest, userTests, published, inState, beginOf, checkpointOf, withUserData, setUserFieldsOf}
 use Rattle.writing.proofs.OneField.{Fits, apart, field-length, field-bytes}
 use Rattle.writing.proofs.FieldList.{Fitting, after, fields-length, fields-value}
 use Rattle.writing.proofs.Bytes.{Bytes, word-bound, bytes-word, value-bytes}
 use Rattle.writing.proofs.Seal.{seal-bytes, seal-other}
 use Rattle.writing.proofs.Tests.{state-passed, header-holds, header-by-state}
 use Rattle.writing.proofs.Answers.{answers, accepted}
-use Rattle.writing.proofs.Roles.{writing-named, passed-header, passed-long, passed-even}
+use Rattle.writing.proofs.Roles.{passed-header, passed-long, passed-even}
+use Rattle.writing.proofs.MoreTests.{change-writing, change-clean, change-generation}
 use Rattle.writing.proofs.StateCode.{user-data-generation}
 use Rattle.writing.proofs.Became.{Became, became-written}
 use Rattle.writing.proofs.StateLaws.{next-fits}
@@ -61,12 +62,7 @@ module _ (o : Options) (image : List ℕ) (bytes : Bytes image) (fields : UserFi
     none = sym (answers image changed (firstOf (userTests o image))) ∙ a
 
     writing : firstOf (writingTests o image) ≡ 0
-    unfolding userTests
-    writing = first-none (writingTests o image) (cleanTest image ++ generationTest image) (writing-named o image) (rw append-assoc at none) .0
-
-    further : (firstOf (cleanTest image) ≡ 0) × (firstOf (generationTest image) ≡ 0)
-    unfolding userTests cleanTest
-    further = first-none (cleanTest image) (generationTest image) tt (first-none (writingTests o image) (cleanTest image ++ generationTest image) (writing-named o image) (rw append-assoc at none) .1)
+    writing = change-writing o image none
 
     long : 256 ≤ length image
     long = passed-long o image writing
@@ -79,14 +75,14 @@ module _ (o : Options) (image : List ℕ) (bytes : Bytes image) (fields : UserFi
 
     fitting : Fitting fs
     unfolding fs
-    fitting = (rw size at (word-bound (fields .«user_data») user-bytes), (next-fits image bytes long (further .1) (passed-even o image writing), (flags, tt)))
+    fitting = (rw size at (word-bound (fields .«user_data») user-bytes), (next-fits image bytes long (change-generation o image none) (passed-even o image writing), (flags, tt)))
 
     pub user-became : Became o image (setUserFieldsOf o image fields .image) DIRTY (value image F.generation + 2)
     unfolding fs
     user-became =
         let even = passed-even o image writing in
         rw left
-        (became-written o image (passed-header o image writing) long bytes fs tt fitting (dirty o image (passed-header o image writing) (further .0)) refl (lit≤ tt) (omega arith))
+        (became-written o image (passed-header o image writing) long bytes fs tt fitting (dirty o image (passed-header o image writing) (change-clean o image none)) refl (lit≤ tt) (omega arith))
 
     valued : (m : ℕ) → T (apart m F.header-crc32c) → value (sealed (withFields image fs)) m ≡ after fs m (value image m)
     valued m t =

@@ -5,18 +5,16 @@ ghost use Prim.Native.Nat.{_%_, _≤_, _<_, _^_};
 ghost use lib.ListN.{length};
 ghost use Rattle.header.specs.Fields.{value, generation as generation-name, state as state-name, user-flags};
 ghost use Rattle.header.specs.FirstOf.{firstOf};
-ghost use Rattle.header.specs.HeaderTest.{shapeOf, verdict};
 ghost use Rattle.writing.specs.Write.{Leaves, unless};
 ghost use Rattle.writing.specs.State.{writingTests, last-generation, inState, published, withUserData, beginOf, checkpointOf, invalidateOf, setUserFieldsOf};
 use crate::fields::seal;
 use crate::fields::write;
-use header::answer::BUSY;
+use crate::judge::judge_change;
+use crate::judge::judge_writer;
 use header::answer::DONE;
-use header::answer::INVALID_INPUT;
 use header::answer::NEEDS_REBUILD;
 use header::fields;
 use header::fields::field_of;
-use header::judge::judge;
 use header::open::UserFields;
 use header::options::Options;
 use header::shape::Judged;
@@ -35,24 +33,6 @@ const GENERATION_STEP: u64 = 2;
 // No even generation comes after this one.
 const LAST_GENERATION: u64 = 18446744073709551614;
 
-// The header test, and then the role: the shape of an image that the caller may write, or the number that refuses it.
-pub fn writer(image: &[u8], o: Options) -> Judged
-    ensures { λ r. ⌜ r ≡ verdict (firstOf (writingTests o (now (image .entry)))) (shapeOf (now (image .entry))) ⌝ }
-{
-    match judge(image, o) {
-        Judged::Fit(shape) => {
-            if o.role == 1 {
-                return Judged::Refused(BUSY);
-            }
-            if o.role == 0 {
-                return Judged::Refused(INVALID_INPUT);
-            }
-            Judged::Fit(shape)
-        }
-        Judged::Refused(number) => Judged::Refused(number),
-    }
-}
-
 // Changes the state alone; an image that has it already is left as it is.
 fn turn(image: &mut [u8], from: u64, to: u64)
     requires { ⌜ (256 ≤ length (now image)) × (from ≡ value (now image) state-name) × (to < 2 ^ 32) ⌝ }
@@ -69,7 +49,7 @@ fn change_state(image: &mut [u8], o: Options, state: u64) -> u32
     requires { ⌜ state < 2 ^ 32 ⌝ }
     ensures { λ r. ⌜ Leaves (unless (firstOf (writingTests o (now (image .entry)))) (now (image .entry)) (inState (now (image .entry)) state)) r (now (image .exit)) ⌝ }
 {
-    match writer(image, o) {
+    match judge_writer(image, o) {
         Judged::Fit(shape) => {
             turn(image, shape.state, state);
             DONE
@@ -106,7 +86,7 @@ fn put_invalidated(image: &mut [u8], generation: u64)
 pub fn invalidate(image: &mut [u8], o: Options) -> u32
     ensures { λ r. ⌜ Leaves (invalidateOf o (now (image .entry))) r (now (image .exit)) ⌝ }
 {
-    match writer(image, o) {
+    match judge_writer(image, o) {
         Judged::Fit(shape) => {
             if shape.generation == LAST_GENERATION {
                 return NEEDS_REBUILD;
@@ -144,14 +124,8 @@ fn put_user_fields(image: &mut [u8], generation: u64, fields: UserFields)
 pub fn set_user_fields(image: &mut [u8], o: Options, fields: UserFields) -> u32
     ensures { λ r. ⌜ Leaves (setUserFieldsOf o (now (image .entry)) fields) r (now (image .exit)) ⌝ }
 {
-    match writer(image, o) {
+    match judge_change(image, o) {
         Judged::Fit(shape) => {
-            if shape.state == CLEAN {
-                return INVALID_INPUT;
-            }
-            if shape.generation == LAST_GENERATION {
-                return NEEDS_REBUILD;
-            }
             put_user_fields(image, shape.generation, fields);
             DONE
         }

@@ -2,14 +2,16 @@
 -- Assumes nothing.
 use denote.Ref.{now}
 use mathlib.Core.Path.{sym, _∙_}
+use Rattle.writing.specs.State.{writingTests}
 use Rattle.writing.proofs.Answers.{says-refused, says-accepted}
-use Rattle.writing.proofs.Roles.{writer-passed, writer-state, writer-number, passed-long}
+use Rattle.writing.proofs.Told.{told-passed, told-state, told-number}
+use Rattle.writing.proofs.Roles.{passed-long}
 use borrow.Author.Needs.{needs}
 use Rattle.writing.proofs.state.change_state.Statement.{statement}
 use Rattle.writing.proofs.state.change_state.Tie as tie
 
-writer-requires : tie.Need-writer-requires
-writer-requires c κs = search needs
+judge-writer-requires : tie.Need-judge-writer-requires
+judge-writer-requires c κs = search needs
 
 enum-known-shape : tie.Need-enum-known-shape
 enum-known-shape c = search needs
@@ -19,8 +21,8 @@ turn-requires c κs =
     let t = c .before .before in
     let w = t .before .before in
     let a = w .before .before .before .args in
-    let e = sym (w .writer .ensures) ∙ t .shape .given .1 in
-    (passed-long (a .o) (now (a .image)) (writer-passed (a .o) (now (a .image)) e), writer-state (a .o) (now (a .image)) e, w .before .before .before .pre)
+    let e = sym (w .judge-writer .ensures) ∙ t .shape .given .1 in
+    (passed-long (a .o) (now (a .image)) (told-passed (writingTests (a .o) (now (a .image))) (now (a .image)) e), told-state (writingTests (a .o) (now (a .image))) (now (a .image)) e, w .before .before .before .pre)
 
 enum-known-number : tie.Need-enum-known-number
 enum-known-number c = search needs
@@ -33,8 +35,8 @@ returns c =
     let t = c .before .before .before .before .before in
     let w = t .before .before in
     let a = w .before .before .before .args in
-    let e = sym (w .writer .ensures) ∙ t .shape .given .1 in
-    says-accepted (now (a .image)) _ _ (sym (writer-passed (a .o) (now (a .image)) e)) (c .before .before .turn .ensures)
+    let e = sym (w .judge-writer .ensures) ∙ t .shape .given .1 in
+    says-accepted (now (a .image)) _ _ (sym (told-passed (writingTests (a .o) (now (a .image))) (now (a .image)) e)) (c .before .before .turn .ensures)
 
 same-length-2 : tie.Need-same-length-2
 same-length-2 c = search needs
@@ -43,14 +45,14 @@ returns-2 : tie.Need-returns-2
 returns-2 c =
     let w = c .before .before .before in
     let a = w .before .before .before .args in
-    let r = writer-number (a .o) (now (a .image)) (sym (w .writer .ensures) ∙ c .before .number .given .1) in
+    let r = told-number (writingTests (a .o) (now (a .image))) (now (a .image)) (sym (w .judge-writer .ensures) ∙ c .before .number .given .1) in
     says-refused (now (a .image)) _ _ (r .0) (r .1)
 
 pub change-state-spec : {M : Type 1} → statement M
 change-state-spec =
     tie.close
     (tie.spec
-    writer-requires
+    judge-writer-requires
     enum-known-shape
     turn-requires
     enum-known-number

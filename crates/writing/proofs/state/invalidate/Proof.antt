@@ -3,16 +3,17 @@
 use denote.Ref.{now}
 use mathlib.Core.Path.{sym, _∙_}
 use native.Mathlib.Omega.{arith}
-use Rattle.writing.specs.State.{invalidateOf}
+use Rattle.writing.specs.State.{writingTests, invalidateOf}
 use Rattle.writing.proofs.Answers.{says-refused, says-accepted}
 use Rattle.writing.proofs.MoreTests.{invalidate-stops, invalidate-last, invalidate-passes}
-use Rattle.writing.proofs.Roles.{writer-passed, writer-generation, writer-number, passed-long, passed-even}
+use Rattle.writing.proofs.Told.{told-passed, told-generation, told-number}
+use Rattle.writing.proofs.Roles.{passed-long, passed-even}
 use borrow.Author.Needs.{needs}
 use Rattle.writing.proofs.state.invalidate.Statement.{statement}
 use Rattle.writing.proofs.state.invalidate.Tie as tie
 
-writer-requires : tie.Need-writer-requires
-writer-requires c κs = search needs
+judge-writer-requires : tie.Need-judge-writer-requires
+judge-writer-requires c κs = search needs
 
 enum-known-shape : tie.Need-enum-known-shape
 enum-known-shape c = search needs
@@ -26,20 +27,20 @@ returns c =
     let t = c .before .before .before in
     let w = t .before .before in
     let a = w .before .before .before .args in
-    let e = sym (w .writer .ensures) ∙ t .shape .given .1 in
+    let e = sym (w .judge-writer .ensures) ∙ t .shape .given .1 in
     let i = now (a .image) in
-    let z = writer-passed (a .o) i e in
-    says-refused i _ _ (invalidate-last (a .o) i z (sym (writer-generation (a .o) i e) ∙ c .if1 .taken)) (λ x. omega arith)
+    let z = told-passed (writingTests (a .o) i) i e in
+    says-refused i _ _ (invalidate-last (a .o) i z (sym (told-generation (writingTests (a .o) i) i e) ∙ c .if1 .taken)) (λ x. omega arith)
 
 put-invalidated-requires : tie.Need-put-invalidated-requires
 put-invalidated-requires c κs =
     let t = c .before .before .before .before in
     let w = t .before .before in
     let a = w .before .before .before .args in
-    let e = sym (w .writer .ensures) ∙ t .shape .given .1 in
+    let e = sym (w .judge-writer .ensures) ∙ t .shape .given .1 in
     let i = now (a .image) in
-    let z = writer-passed (a .o) i e in
-    let g = writer-generation (a .o) i e in
+    let z = told-passed (writingTests (a .o) i) i e in
+    let g = told-generation (writingTests (a .o) i) i e in
     (passed-long (a .o) i z, g, rw g (passed-even (a .o) i z), c .before .if1 .left)
 
 enum-known-number : tie.Need-enum-known-number
@@ -54,11 +55,11 @@ returns-2 c =
     let t = c .before .before .before .before .before .before .before in
     let w = t .before .before in
     let a = w .before .before .before .args in
-    let e = sym (w .writer .ensures) ∙ t .shape .given .1 in
+    let e = sym (w .judge-writer .ensures) ∙ t .shape .given .1 in
     let i = now (a .image) in
-    let z = writer-passed (a .o) i e in
+    let z = told-passed (writingTests (a .o) i) i e in
     let other = c .before .before .before .before .if1 .left in
-    says-accepted i _ _ (sym (invalidate-passes (a .o) i z (λ x. other (writer-generation (a .o) i e ∙ x)))) (c .before .before .put-invalidated .ensures)
+    says-accepted i _ _ (sym (invalidate-passes (a .o) i z (λ x. other (told-generation (writingTests (a .o) i) i e ∙ x)))) (c .before .before .put-invalidated .ensures)
 
 same-length-3 : tie.Need-same-length-3
 same-length-3 c = search needs
@@ -69,14 +70,14 @@ returns-3 c =
     let w = c .before .before .before in
     let a = w .before .before .before .args in
     let i = now (a .image) in
-    let r = writer-number (a .o) i (sym (w .writer .ensures) ∙ c .before .number .given .1) in
+    let r = told-number (writingTests (a .o) i) i (sym (w .judge-writer .ensures) ∙ c .before .number .given .1) in
     says-refused i _ _ (invalidate-stops (a .o) i (r .0) (r .1)) (r .1)
 
 pub invalidate-spec : {M : Type 1} → statement M
 invalidate-spec =
     tie.close
     (tie.spec
-    writer-requires
+    judge-writer-requires
     enum-known-shape
     same-length
     returns

@@ -1,11 +1,11 @@
--- `writing::state::writer` meets its contract: the judgement, and of an image that fits the role.
+-- `writing::judge::judge_writer` meets its contract: the judgement, and of an image that fits the role.
 -- Assumes nothing.
 use denote.Ref.{now}
 use mathlib.Core.Path.{sym, _∙_}
 use Rattle.writing.proofs.Roles.{writer-busy, writer-unknown, writer-known, writer-refused}
 use borrow.Author.Needs.{needs}
-use Rattle.writing.proofs.state.writer.Statement.{statement}
-use Rattle.writing.proofs.state.writer.Tie as tie
+use Rattle.writing.proofs.judge.judge_writer.Statement.{statement}
+use Rattle.writing.proofs.judge.judge_writer.Tie as tie
 
 judge-requires : tie.Need-judge-requires
 judge-requires c κs = search needs
@@ -40,8 +40,8 @@ returns-4 c =
     let a = b .before .before .args in
     writer-refused (a .o) (now (a .image)) (sym (b .judge .ensures) ∙ c .before .number .given .1)
 
-pub writer-spec : {M : Type 1} → statement M
-writer-spec =
+pub judge-writer-spec : {M : Type 1} → statement M
+judge-writer-spec =
     tie.close
     (tie.spec
     judge-requires
