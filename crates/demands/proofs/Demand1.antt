@@ -12,7 +12,8 @@ use Rattle.header.specs.declared.open.UserFields.{UserFields}
 use Rattle.header.specs.Answer.{done, busy, full, out-of-order, invalid-input, too-short}
 use Rattle.header.specs.Fields as F
 use Rattle.header.specs.FirstOf.{firstOf}
-use Rattle.header.specs.HeaderTest.{CLEAN, INVALIDATED, DIRTY, test1, headerTests, headerTest, afterTest, shapeOf}
+use Rattle.header.specs.State.{CLEAN, INVALIDATED, DIRTY}
+use Rattle.header.specs.HeaderTest.{test1, headerTests, headerTest, afterTest, shapeOf}
 use Rattle.header.proofs.Said.{agreed}
 use Rattle.header.proofs.Stages.{passes}
 use Rattle.image.specs.Lookup.{nothing, lookupOf}

@@ -14,7 +14,8 @@ use Rattle.header.specs.Answer.{done}
 use Rattle.header.specs.Fields as F
 use Rattle.header.specs.Fields.{value}
 use Rattle.header.specs.FirstOf.{firstOf}
-use Rattle.header.specs.HeaderTest.{CLEAN, DIRTY, headerTests, headerTest, shapeOf, test1, test2, test3, test4, test5, test6, test7, test8, test9, test10, test11, test12}
+use Rattle.header.specs.State.{CLEAN, DIRTY}
+use Rattle.header.specs.HeaderTest.{headerTests, headerTest, shapeOf, test1, test2, test3, test4, test5, test6, test7, test8, test9, test10, test11, test12}
 use Rattle.header.specs.Open.{userFields, noFields}
 use Rattle.header.specs.Sizes.{totalSize}
 use Rattle.header.proofs.Firsts.{named, first-after}

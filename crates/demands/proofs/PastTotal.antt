@@ -16,7 +16,7 @@ use Rattle.header.specs.declared.open.UserFields.{UserFields}
 use Rattle.header.specs.Fields as F
 use Rattle.header.specs.Fields.{value}
 use Rattle.header.specs.FirstOf.{firstOf}
-use Rattle.header.specs.HeaderTest.{CLEAN, DIRTY}
+use Rattle.header.specs.State.{CLEAN, DIRTY}
 use Rattle.header.specs.Sizes.{totalSize}
 use Rattle.header.proofs.Firsts.{first-none}
 use Rattle.writing.specs.Write.{withField, withFields, sealed, unless}

@@ -16,7 +16,8 @@ use Rattle.header.specs.Answer.{done, invalidated, not-present}
 use Rattle.header.specs.Fields as F
 use Rattle.header.specs.Fields.{value}
 use Rattle.header.specs.FirstOf.{firstOf}
-use Rattle.header.specs.HeaderTest.{CLEAN, headerTest, shapeOf}
+use Rattle.header.specs.State.{CLEAN}
+use Rattle.header.specs.HeaderTest.{headerTest, shapeOf}
 use Rattle.header.specs.Open.{openOf}
 use Rattle.header.specs.Sizes.{totalSize}
 use Rattle.image.specs.Lookup.{lookupOf, indexPart}

@@ -9,7 +9,8 @@ use lib.ListN.{replicate}
 use Rattle.digests.specs.Fnv.{fnv1a64}
 use Rattle.header.specs.declared.options.Options.{Options}
 use Rattle.header.specs.Answer.{done, full, out-of-order}
-use Rattle.header.specs.HeaderTest.{CLEAN, DIRTY, headerTest, shapeOf}
+use Rattle.header.specs.State.{CLEAN, DIRTY}
+use Rattle.header.specs.HeaderTest.{headerTest, shapeOf}
 use Rattle.header.specs.Open.{noFields}
 use Rattle.image.specs.Lookup.{lookupOf}
 use Rattle.writing.specs.Create.{createOf}

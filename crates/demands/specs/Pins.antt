@@ -10,7 +10,7 @@ use Rattle.numbers.specs.Bytes.{word, bytesOf, below}
 use Rattle.numbers.specs.Signed.{signed}
 use Rattle.digests.specs.Fnv.{fnv1a64}
 use Rattle.digests.specs.Crc.{crc32c}
-use Rattle.header.specs.HeaderTest.{SLC1}
+use Rattle.header.specs.Fields.{SLC1}
 use Rattle.header.specs.Sizes.{most-slot-capacity, bucketCount}
 use Rattle.listing.specs.Match.{agrees}
 use Rattle.host.specs.Places.{keyPlace, indexPlace}

@@ -10,7 +10,8 @@ use Rattle.digests.specs.Fnv.{fnv1a64}
 use Rattle.header.specs.declared.options.Options.{Options}
 use Rattle.header.specs.declared.open.UserFields.{UserFields}
 use Rattle.header.specs.Answer.{done, full, invalidated, not-present}
-use Rattle.header.specs.HeaderTest.{CLEAN, INVALIDATED, DIRTY, headerTest, shapeOf}
+use Rattle.header.specs.State.{CLEAN, INVALIDATED, DIRTY}
+use Rattle.header.specs.HeaderTest.{headerTest, shapeOf}
 use Rattle.header.specs.Open.{noFields, openOf}
 use Rattle.image.specs.Lookup.{lookupOf, indexPart}
 use Rattle.writing.specs.Create.{createOf}

@@ -114,3 +114,7 @@ bytesIn image name = part image (fieldOf name .offset) (fieldOf name .width)
 
 unfoldable pub value : List ℕ → ℕ → ℕ
 value image name = word (bytesIn image name)
+
+-- what the magic of every image is: the bytes "SLC1" as a little-endian word
+abbrev pub SLC1 : ℕ
+SLC1 = 0x31434C53

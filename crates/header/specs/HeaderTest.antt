@@ -13,23 +13,10 @@ use Rattle.header.specs.declared.shape.Judged.{Judged}
 use Rattle.header.specs.declared.shape.Judged.the-variants.{Fit, Refused}
 use Rattle.header.specs.Answer.{needs-rebuild, incompatible, invalidated, busy, invalid-input, create-it}
 use Rattle.header.specs.Fields as F
-use Rattle.header.specs.Fields.{value, bytesIn}
+use Rattle.header.specs.Fields.{value, bytesIn, SLC1}
 use Rattle.header.specs.FirstOf.{firstOf}
+use Rattle.header.specs.State.{INVALIDATED, DIRTY, no-writer-known, another-writer, holds-the-lock}
 use Rattle.header.specs.Sizes.{sizesAllowed, slotSize, powerFrom, bucketCount, bucketsOffset}
-
--- "State: 0 CLEAN, 1 INVALIDATED, 2 DIRTY."
-abbrev pub CLEAN : ℕ
-CLEAN = 0
-
-abbrev pub INVALIDATED : ℕ
-INVALIDATED = 1
-
-abbrev pub DIRTY : ℕ
-DIRTY = 2
-
--- the bytes "SLC1" as a little-endian word
-abbrev pub SLC1 : ℕ
-SLC1 = 0x31434C53
 
 -- whether a number of 64 bits is a power of two
 unfoldable pub powerOfTwo : ℕ → Bool
@@ -37,7 +24,7 @@ powerOfTwo n = eqb (powerFrom 64 0 n) n
 
 -- "1. Options outside the sizes, ordered above 1, or role above 2: 7."
 unfoldable pub test1 : Options → List (Bool × ℕ)
-test1 o = (not (sizesAllowed o) || ltb 1 (o .ordered) || ltb 2 (o .role), invalid-input) ∷ []
+test1 o = (not (sizesAllowed o) || ltb 1 (o .ordered) || ltb holds-the-lock (o .role), invalid-input) ∷ []
 
 -- "2. Length 0: 10. Length 1 to 255: 1."
 unfoldable pub test2 : List ℕ → List (Bool × ℕ)
@@ -56,7 +43,7 @@ test3 image = (
 -- "4. Generation odd: role 1 gives 4, else 1."
 unfoldable pub test4 : Options → List ℕ → List (Bool × ℕ)
 test4 o image =
-    (eqb (value image F.generation % 2) 1 && eqb (o .role) 1, busy)
+    (eqb (value image F.generation % 2) 1 && eqb (o .role) another-writer, busy)
     ∷ (eqb (value image F.generation % 2) 1, needs-rebuild)
     ∷ []
 
@@ -67,7 +54,7 @@ test5 image = (not (eqb (value image F.header-crc32c) (headerCrc image)), needs-
 -- "6. Unknown flag, non-zero reserved byte, unknown state: 2."
 unfoldable pub test6 : List ℕ → List (Bool × ℕ)
 test6 image =
-    (ltb 1 (value image F.flags) || not (allZero (bytesIn image F.reserved)) || ltb 2 (value image F.state), incompatible)
+    (ltb 1 (value image F.flags) || not (allZero (bytesIn image F.reserved)) || ltb DIRTY (value image F.state), incompatible)
     ∷ []
 
 -- "7. INVALIDATED: 3."
@@ -117,7 +104,7 @@ test11 image = (
 
 -- "12. DIRTY with role 0: 1."
 unfoldable pub test12 : Options → List ℕ → List (Bool × ℕ)
-test12 o image = (eqb (value image F.state) DIRTY && eqb (o .role) 0, needs-rebuild) ∷ []
+test12 o image = (eqb (value image F.state) DIRTY && eqb (o .role) no-writer-known, needs-rebuild) ∷ []
 
 unfoldable pub headerTests : Options → List ℕ → List (Bool × ℕ)
 headerTests o image =

@@ -11,6 +11,9 @@ pub struct Field {
     pub width: usize,
 }
 
+// What the magic of every image is: the bytes "SLC1" as a little-endian word.
+pub const SLC1: u64 = 0x31434C53;
+
 pub const MAGIC: usize = 0;
 
 pub const VERSION: usize = 1;

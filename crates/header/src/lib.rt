@@ -6,4 +6,5 @@ pub mod open;
 pub mod options;
 pub mod shape;
 pub mod sizes;
+pub mod state;
 mod tests;

@@ -5,6 +5,7 @@ ghost use Rattle.header.specs.HeaderTest.{test1};
 use crate::answer::INVALID_INPUT;
 use crate::answer::refuse;
 use crate::sizes::sizes_allowed;
+use crate::state::HOLDS_THE_LOCK;
 
 // Any numbers may be passed; the header test refuses those outside the sizes.
 pub struct Options {
@@ -23,7 +24,7 @@ pub fn options_test(o: Options) -> u32
     ensures { λ r. ⌜ r ≡ firstOf (test1 o) ⌝ }
 {
     refuse(
-        !sizes_allowed(o) | (1 < o.ordered) | (2 < o.role),
+        !sizes_allowed(o) | (1 < o.ordered) | (HOLDS_THE_LOCK < o.role),
         INVALID_INPUT,
     )
 }

@@ -21,16 +21,12 @@ use crate::sizes::bucket_count;
 use crate::sizes::buckets_offset;
 use crate::sizes::power_of_two;
 use crate::sizes::slot_size;
+use crate::state;
+use crate::state::ANOTHER_WRITER;
+use crate::state::DIRTY;
+use crate::state::NO_WRITER_KNOWN;
 use digests::crc::header_crc;
 use numbers::parts::all_zero;
-
-// The bytes "SLC1" as a little-endian word.
-const SLC1: u64 = 0x31434C53;
-
-// The states of an image; CLEAN is 0.
-const STATE_INVALIDATED: u64 = 1;
-
-const STATE_DIRTY: u64 = 2;
 
 // 2. An image of length 0, or one shorter than a header.
 pub fn length_test(image: &[u8]) -> u32
@@ -47,7 +43,7 @@ pub fn format_test(image: &[u8]) -> u32
     requires { ⌜ 256 ≤ length (now image) ⌝ }
     ensures { λ r. ⌜ r ≡ firstOf (test3 (now (image .entry))) ⌝ }
 {
-    let magic = read(image, fields::MAGIC) == SLC1;
+    let magic = read(image, fields::MAGIC) == fields::SLC1;
     let version = read(image, fields::VERSION) == 1;
     let header_size = read(image, fields::HEADER_SIZE) == 256;
     let hash_alg = read(image, fields::HASH_ALG) == 1;
@@ -60,7 +56,7 @@ pub fn generation_test(image: &[u8], o: Options) -> u32
     ensures { λ r. ⌜ r ≡ firstOf (test4 o (now (image .entry))) ⌝ }
 {
     let odd = read(image, fields::GENERATION) % 2 == 1;
-    if odd & (o.role == 1) {
+    if odd & (o.role == ANOTHER_WRITER) {
         return BUSY;
     }
     refuse(odd, NEEDS_REBUILD)
@@ -83,7 +79,7 @@ pub fn known_test(image: &[u8]) -> u32
     let flags = read(image, fields::FLAGS);
     let reserved = all_zero(bytes_in(image, fields::RESERVED));
     let state = read(image, fields::STATE);
-    refuse((1 < flags) | !reserved | (2 < state), INCOMPATIBLE)
+    refuse((1 < flags) | !reserved | (DIRTY < state), INCOMPATIBLE)
 }
 
 // 7. INVALIDATED.
@@ -91,7 +87,10 @@ pub fn invalidated_test(image: &[u8]) -> u32
     requires { ⌜ 256 ≤ length (now image) ⌝ }
     ensures { λ r. ⌜ r ≡ firstOf (test7 (now (image .entry))) ⌝ }
 {
-    refuse(read(image, fields::STATE) == STATE_INVALIDATED, INVALIDATED)
+    refuse(
+        read(image, fields::STATE) == state::INVALIDATED,
+        INVALIDATED,
+    )
 }
 
 // 8. Sizes, user_version or ordered flag not as the options say.
@@ -165,7 +164,7 @@ pub fn dirty_test(image: &[u8], o: Options) -> u32
     ensures { λ r. ⌜ r ≡ firstOf (test12 o (now (image .entry))) ⌝ }
 {
     refuse(
-        (read(image, fields::STATE) == STATE_DIRTY) & (o.role == 0),
+        (read(image, fields::STATE) == DIRTY) & (o.role == NO_WRITER_KNOWN),
         NEEDS_REBUILD,
     )
 }

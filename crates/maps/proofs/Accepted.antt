@@ -13,7 +13,8 @@ use Rattle.header.specs.Answer.{needs-rebuild, invalidated, busy, full, out-of-
 use Rattle.header.specs.Fields as F
 use Rattle.header.specs.Fields.{value}
 use Rattle.header.specs.FirstOf.{firstOf}
-use Rattle.header.specs.HeaderTest.{INVALIDATED, DIRTY, CLEAN, test1, test2, test3, test4, test5, test6, test7, test8, test9, test10, test11, test12, headerTests, headerTest, shapeOf}
+use Rattle.header.specs.State.{CLEAN, INVALIDATED, DIRTY, last-generation}
+use Rattle.header.specs.HeaderTest.{test1, test2, test3, test4, test5, test6, test7, test8, test9, test10, test11, test12, headerTests, headerTest, shapeOf}
 use Rattle.header.specs.Sizes.{sizesAllowed}
 use Rattle.header.specs.Shaped.{Shaped}
 use Rattle.header.proofs.Firsts.{first-none, fails, neither}
@@ -21,7 +22,7 @@ use Rattle.header.proofs.Fit.{judged-fit, fit-shaped}
 use Rattle.header.proofs.Said.{length-passed}
 use Rattle.image.specs.Table.{tableOf}
 use Rattle.image.specs.Check.{passes}
-use Rattle.writing.specs.State.{writingTests, cleanTest, last-generation, generationTest, userTests}
+use Rattle.writing.specs.State.{writingTests, cleanTest, generationTest, userTests}
 use Rattle.writing.proofs.Bytes.{Bytes, value-bound}
 use Rattle.writing.proofs.Tests.{Holds, even-passed, state-passed, header-by-state, header-holds}
 use Rattle.batch.specs.Batch.{batchWrong}

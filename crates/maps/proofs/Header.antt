@@ -14,7 +14,8 @@ use Rattle.header.specs.declared.shape.Shape.{Shape}
 use Rattle.header.specs.Fields as F
 use Rattle.header.specs.Fields.{bytesIn, value}
 use Rattle.header.specs.FirstOf.{firstOf}
-use Rattle.header.specs.HeaderTest.{DIRTY, test2, test3, test4, test5, test6, test8, test9, test10, test11, headerTest, shapeOf}
+use Rattle.header.specs.State.{DIRTY}
+use Rattle.header.specs.HeaderTest.{test2, test3, test4, test5, test6, test8, test9, test10, test11, headerTest, shapeOf}
 use Rattle.header.specs.Open.{userFields}
 use Rattle.header.specs.Shaped.{Shaped}
 use Rattle.image.specs.Table.{tableOf}

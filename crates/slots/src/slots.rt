@@ -14,6 +14,7 @@ use header::fields;
 use header::fields::read;
 use header::shape::Shape;
 use header::sizes::align8;
+use header::state::GENERATION_STEP;
 use image::probe::bucket_at;
 use image::probe::key_part;
 use image::probe::meta_at;
@@ -135,7 +136,7 @@ pub fn publish(image: &mut [u8], s: Shape)
     requires { ⌜ (256 ≤ length (now image)) × (value (now image) generation + 2 < 2 ^ 64) ⌝ }
     ensures { λ r. ⌜ now (image .exit) ≡ counted s (now (image .entry)) ⌝ }
 {
-    let next = read(image, fields::GENERATION) + 2;
+    let next = read(image, fields::GENERATION) + GENERATION_STEP;
     let highwater = s.slot_highwater as u64;
     let live = s.live_count as u64;
     let tombstones = s.bucket_tombstones as u64;

@@ -13,7 +13,8 @@ use Rattle.header.specs.declared.options.Options.{Options}
 use Rattle.header.specs.Fields as F
 use Rattle.header.specs.Fields.{fieldOf, value}
 use Rattle.header.specs.FirstOf.{firstOf}
-use Rattle.header.specs.HeaderTest.{CLEAN, INVALIDATED, DIRTY, headerTest, shapeOf}
+use Rattle.header.specs.State.{CLEAN, INVALIDATED, DIRTY}
+use Rattle.header.specs.HeaderTest.{headerTest, shapeOf}
 use Rattle.image.specs.Table.{tableOf}
 use Rattle.writing.specs.Write.{withField, withFields, sealed}
 use Rattle.writing.proofs.Bytes.{Bytes, put-bytes, bytes-of-bytes}

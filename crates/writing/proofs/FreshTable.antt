@@ -17,7 +17,8 @@ use Rattle.header.specs.declared.shape.Shape.{Shape}
 use Rattle.header.specs.Fields as F
 use Rattle.header.specs.Fields.{value}
 use Rattle.header.specs.FirstOf.{firstOf}
-use Rattle.header.specs.HeaderTest.{CLEAN, shapeOf}
+use Rattle.header.specs.State.{CLEAN}
+use Rattle.header.specs.HeaderTest.{shapeOf}
 use Rattle.header.specs.Sizes.{slotSize, bucketCount, bucketsOffset, totalSize}
 use Rattle.header.proofs.SizeLaws.{slot-size-low}
 use Rattle.image.specs.Check.{passes}

@@ -10,9 +10,9 @@ use Rattle.header.specs.Answer.{needs-rebuild, invalid-input}
 use Rattle.header.specs.Fields as F
 use Rattle.header.specs.Fields.{value}
 use Rattle.header.specs.FirstOf.{firstOf}
-use Rattle.header.specs.HeaderTest.{CLEAN}
+use Rattle.header.specs.State.{CLEAN, last-generation}
 use Rattle.header.proofs.Firsts.{first-stops, first-none, fails}
-use Rattle.writing.specs.State.{writingTests, cleanTest, last-generation, generationTest, invalidateTests, userTests}
+use Rattle.writing.specs.State.{writingTests, cleanTest, generationTest, invalidateTests, userTests}
 use Rattle.writing.proofs.Tests.{past}
 use Rattle.writing.proofs.Roles.{writing-named}
 

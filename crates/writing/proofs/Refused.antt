@@ -8,7 +8,7 @@ use Rattle.header.specs.declared.options.Options.{Options}
 use Rattle.header.specs.declared.open.UserFields.{UserFields}
 use Rattle.header.specs.Fields as F
 use Rattle.header.specs.FirstOf.{firstOf}
-use Rattle.header.specs.HeaderTest.{CLEAN, INVALIDATED, DIRTY}
+use Rattle.header.specs.State.{CLEAN, INVALIDATED, DIRTY}
 use Rattle.header.specs.Sizes.{totalSize}
 use Rattle.writing.specs.Create.{createTests, fresh, createOf}
 use Rattle.writing.specs.State.{writingTests, invalidateTests, userTests, inState, published, withUserData, beginOf, checkpointOf, invalidateOf, setUserFieldsOf}

@@ -14,6 +14,7 @@ use Rattle.header.specs.Answer.{busy, invalid-input}
 use Rattle.header.specs.Fields as F
 use Rattle.header.specs.Fields.{value}
 use Rattle.header.specs.FirstOf.{firstOf}
+use Rattle.header.specs.State.{no-writer-known, another-writer}
 use Rattle.header.specs.HeaderTest.{test1, test2, test3, test4, test5, test6, test7, test8, test9, test10, test11, test12, headerTests, headerTest, judged}
 use Rattle.header.proofs.Firsts.{named, first-stops, first-none}
 use Rattle.header.proofs.Fit.{fit-number, fit-shape, refused-number}
@@ -32,24 +33,24 @@ module _ (o : Options) (image : List ℕ) where
   unfolding writingTests headerTests test1 test2 test3 test4 test5 test6 test7 test8 test9 test10 test11 test12
   writing-named = tt
 
-  role-decides : headerTest o image ≡ 0 → firstOf (writingTests o image) ≡ firstOf ((eqb (o .role) 1, busy) ∷ (eqb (o .role) 0, invalid-input) ∷ [])
+  role-decides : headerTest o image ≡ 0 → firstOf (writingTests o image) ≡ firstOf ((eqb (o .role) another-writer, busy) ∷ (eqb (o .role) no-writer-known, invalid-input) ∷ [])
   unfolding writingTests headerTest
   role-decides z = past (headerTests o image) _ header-named z
 
   -- what a writer is told, by the judgement and the role
   module _ {s : Shape} (e : judged o image ≡ Fit s) where
-    pub writer-busy : o .role ≡ 1 → Refused busy ≡ toldBy (writingTests o image) image
+    pub writer-busy : o .role ≡ another-writer → Refused busy ≡ toldBy (writingTests o image) image
     unfolding firstOf
     writer-busy h = rw (role-decides (fit-number o image s e), h) refl
 
-    pub writer-unknown : o .role ≡ 0 → Refused invalid-input ≡ toldBy (writingTests o image) image
+    pub writer-unknown : o .role ≡ no-writer-known → Refused invalid-input ≡ toldBy (writingTests o image) image
     unfolding firstOf
     writer-unknown h = rw (role-decides (fit-number o image s e), h) refl
 
-    pub writer-known : (o .role ≡ 1 → ⊥) → (o .role ≡ 0 → ⊥) → Fit s ≡ toldBy (writingTests o image) image
+    pub writer-known : (o .role ≡ another-writer → ⊥) → (o .role ≡ no-writer-known → ⊥) → Fit s ≡ toldBy (writingTests o image) image
     unfolding firstOf
     writer-known h₁ h₀ =
-        rw (role-decides (fit-number o image s e), ne-eqb (o .role) 1 h₁, ne-eqb (o .role) 0 h₀) (ap Fit (fit-shape o image s e))
+        rw (role-decides (fit-number o image s e), ne-eqb (o .role) another-writer h₁, ne-eqb (o .role) no-writer-known h₀) (ap Fit (fit-shape o image s e))
 
   pub writer-refused : {n : ℕ} → judged o image ≡ Refused n → Refused n ≡ toldBy (writingTests o image) image
   unfolding writingTests headerTest

@@ -12,7 +12,8 @@ use Rattle.header.specs.declared.options.Options.{Options}
 use Rattle.header.specs.Fields as F
 use Rattle.header.specs.Fields.{value}
 use Rattle.header.specs.FirstOf.{firstOf}
-use Rattle.header.specs.HeaderTest.{CLEAN, INVALIDATED, DIRTY, headerTest}
+use Rattle.header.specs.State.{CLEAN, INVALIDATED, DIRTY}
+use Rattle.header.specs.HeaderTest.{headerTest}
 use Rattle.header.proofs.Firsts.{first-none}
 use Rattle.writing.specs.Write.{withField, withFields, sealed}
 use Rattle.writing.specs.State.{writingTests, generationTest, invalidateTests, inState, published, beginOf, checkpointOf, invalidateOf}

@@ -14,7 +14,8 @@ use Rattle.header.specs.Answer.{needs-rebuild, invalidated, busy}
 use Rattle.header.specs.Fields as F
 use Rattle.header.specs.Fields.{value, bytesIn}
 use Rattle.header.specs.FirstOf.{firstOf}
-use Rattle.header.specs.HeaderTest.{INVALIDATED, DIRTY, test1, test2, test3, test4, test5, test6, test7, test8, test9, test10, test11, test12, headerTest}
+use Rattle.header.specs.State.{INVALIDATED, DIRTY, no-writer-known, another-writer}
+use Rattle.header.specs.HeaderTest.{test1, test2, test3, test4, test5, test6, test7, test8, test9, test10, test11, test12, headerTest}
 use Rattle.header.proofs.Firsts.{named, first-after, first-none, fails, neither}
 use Rattle.header.proofs.Stages.{staged, fitting}
 
@@ -34,7 +35,7 @@ pub even-passed : (o : Options) (image : List ℕ) → firstOf (test4 o image) �
 unfolding test4
 even-passed o image z =
     let odd : Bool = eqb (value image F.generation % 2) 1 in
-    let p = first-none ((odd && eqb (o .role) 1, busy) ∷ []) ((odd, needs-rebuild) ∷ []) tt z in
+    let p = first-none ((odd && eqb (o .role) another-writer, busy) ∷ []) ((odd, needs-rebuild) ∷ []) tt z in
     omega (arith, eqb-false (value image F.generation % 2) 1 (fails odd 0 (p .1)))
 
 -- "CRC differs": it does not
@@ -45,7 +46,7 @@ crc-passed image z =
     eqb-true (value image F.header-crc32c) (headerCrc image) (not-false right (fails (not right) 0 z))
 
 -- "unknown state": it is known
-pub state-passed : (image : List ℕ) → firstOf (test6 image) ≡ 0 → value image F.state ≤ 2
+pub state-passed : (image : List ℕ) → firstOf (test6 image) ≡ 0 → value image F.state ≤ DIRTY
 unfolding test6
 state-passed image z =
     let other : Bool = ltb 1 (value image F.flags) || not (allZero (bytesIn image F.reserved)) in
@@ -53,7 +54,7 @@ state-passed image z =
 
 -- what the state and the role decide: "7. INVALIDATED: 3." "12. DIRTY with role 0: 1."
 abbrev pub stateTests : ℕ → ℕ → List (Bool × ℕ)
-stateTests role state = (eqb state INVALIDATED, invalidated) ∷ (eqb state DIRTY && eqb role 0, needs-rebuild) ∷ []
+stateTests role state = (eqb state INVALIDATED, invalidated) ∷ (eqb state DIRTY && eqb role no-writer-known, needs-rebuild) ∷ []
 
 module _ (o : Options) (image : List ℕ) where
   -- none of the other tests holds

@@ -15,7 +15,8 @@ use Rattle.header.specs.Answer.{invalidated}
 use Rattle.header.specs.Fields as F
 use Rattle.header.specs.Fields.{bytesIn, value}
 use Rattle.header.specs.FirstOf.{firstOf}
-use Rattle.header.specs.HeaderTest.{CLEAN, INVALIDATED, DIRTY, headerTest}
+use Rattle.header.specs.State.{CLEAN, INVALIDATED, DIRTY}
+use Rattle.header.specs.HeaderTest.{headerTest}
 use Rattle.header.specs.Open.{userFields}
 use Rattle.header.proofs.Firsts.{first-none, fails}
 use Rattle.writing.specs.Write.{withField, withFields, sealed, unless}

@@ -8,8 +8,9 @@ use lib.ListN.{length, drop, replicate}
 use Rattle.header.specs.declared.options.Options.{Options}
 use Rattle.header.specs.Answer.{too-short}
 use Rattle.header.specs.Fields as F
+use Rattle.header.specs.Fields.{SLC1}
 use Rattle.header.specs.FirstOf.{firstOf}
-use Rattle.header.specs.HeaderTest.{test1, SLC1}
+use Rattle.header.specs.HeaderTest.{test1}
 use Rattle.header.specs.Sizes.{slotSize, bucketCount, bucketsOffset, totalSize}
 use Rattle.writing.specs.Write.{withFields, sealed, Written, unless}
 

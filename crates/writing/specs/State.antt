@@ -11,21 +11,19 @@ use Rattle.header.specs.Answer.{needs-rebuild, busy, invalid-input}
 use Rattle.header.specs.Fields as F
 use Rattle.header.specs.Fields.{value, fieldOf}
 use Rattle.header.specs.FirstOf.{firstOf}
-use Rattle.header.specs.HeaderTest.{headerTests, CLEAN, INVALIDATED, DIRTY}
+use Rattle.header.specs.State.{CLEAN, INVALIDATED, DIRTY, no-writer-known, another-writer, last-generation}
+use Rattle.header.specs.HeaderTest.{headerTests}
 use Rattle.writing.specs.Write.{withField, withFields, sealed, Written, unless}
 
 -- "After the header test, role 1 gives 4 and role 0 gives 7."
 unfoldable pub writingTests : Options → List ℕ → List (Bool × ℕ)
-writingTests o image = headerTests o image ++ (eqb (o .role) 1, busy) ∷ (eqb (o .role) 0, invalid-input) ∷ []
+writingTests o image = headerTests o image ++ (eqb (o .role) another-writer, busy) ∷ (eqb (o .role) no-writer-known, invalid-input) ∷ []
 
 -- "Next, commit and set user fields on CLEAN: 7."
 unfoldable pub cleanTest : List ℕ → List (Bool × ℕ)
 cleanTest image = (eqb (value image F.state) CLEAN, invalid-input) ∷ []
 
 -- "Then commit, set user fields and invalidate at generation 2^64 - 2: 1."
-abbrev pub last-generation : ℕ
-last-generation = 18446744073709551614
-
 unfoldable pub generationTest : List ℕ → List (Bool × ℕ)
 generationTest image = (eqb (value image F.generation) last-generation, needs-rebuild) ∷ []
 

@@ -20,16 +20,13 @@ use header::sizes::slot_size;
 use header::sizes::total_size;
 use numbers::parts::clear;
 
-// The bytes "SLC1" as a little-endian word.
-const SLC1: u64 = 0x31434C53;
-
 // Puts what every image says, and the sizes of a slot, into a header: the first six fields of a fresh one.
 fn write_sizes(image: &mut [u8], o: Options)
     requires { ⌜ (256 ≤ length (now image)) × (o .«key_size» ≤ most-key-size) × (o .«index_size» ≤ most-index-size) ⌝ }
     ensures { λ r. ⌜ now (image .exit) ≡ withFields (now (image .entry)) (take 6 (freshFields o)) ⌝ }
 {
     let slot = slot_size(o.key_size, o.index_size);
-    write(image, fields::MAGIC, SLC1);
+    write(image, fields::MAGIC, fields::SLC1);
     write(image, fields::VERSION, 1);
     write(image, fields::HEADER_SIZE, 256);
     write(image, fields::KEY_SIZE, o.key_size);

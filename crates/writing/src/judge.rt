@@ -9,12 +9,10 @@ use header::answer::NEEDS_REBUILD;
 use header::judge::judge;
 use header::options::Options;
 use header::shape::Judged;
-
-// The state of an image that no writer has open.
-const CLEAN: u64 = 0;
-
-// No even generation comes after this one.
-const LAST_GENERATION: u64 = 18446744073709551614;
+use header::state::ANOTHER_WRITER;
+use header::state::CLEAN;
+use header::state::LAST_GENERATION;
+use header::state::NO_WRITER_KNOWN;
 
 // The tests of every writing call: the header test, and then the role.
 pub fn judge_writer(image: &[u8], o: Options) -> Judged
@@ -22,10 +20,10 @@ pub fn judge_writer(image: &[u8], o: Options) -> Judged
 {
     match judge(image, o) {
         Judged::Fit(shape) => {
-            if o.role == 1 {
+            if o.role == ANOTHER_WRITER {
                 return Judged::Refused(BUSY);
             }
-            if o.role == 0 {
+            if o.role == NO_WRITER_KNOWN {
                 return Judged::Refused(INVALID_INPUT);
             }
             Judged::Fit(shape)

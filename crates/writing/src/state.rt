@@ -5,8 +5,9 @@ ghost use Prim.Native.Nat.{_%_, _≤_, _<_, _^_};
 ghost use lib.ListN.{length};
 ghost use Rattle.header.specs.Fields.{value, generation as generation-name, state as state-name, user-flags};
 ghost use Rattle.header.specs.FirstOf.{firstOf};
+ghost use Rattle.header.specs.State.{INVALIDATED, last-generation};
 ghost use Rattle.writing.specs.Write.{Leaves, unless};
-ghost use Rattle.writing.specs.State.{writingTests, last-generation, inState, published, withUserData, beginOf, checkpointOf, invalidateOf, setUserFieldsOf};
+ghost use Rattle.writing.specs.State.{writingTests, inState, published, withUserData, beginOf, checkpointOf, invalidateOf, setUserFieldsOf};
 use crate::fields::seal;
 use crate::fields::write;
 use crate::judge::judge_change;
@@ -18,20 +19,12 @@ use header::fields::field_of;
 use header::open::UserFields;
 use header::options::Options;
 use header::shape::Judged;
+use header::state::CLEAN;
+use header::state::DIRTY;
+use header::state::GENERATION_STEP;
+use header::state::INVALIDATED;
+use header::state::LAST_GENERATION;
 use numbers::parts::copy_to;
-
-// The states of an image.
-const CLEAN: u64 = 0;
-
-const INVALIDATED: u64 = 1;
-
-const DIRTY: u64 = 2;
-
-// What each change but one of the state alone adds to the generation.
-const GENERATION_STEP: u64 = 2;
-
-// No even generation comes after this one.
-const LAST_GENERATION: u64 = 18446744073709551614;
 
 // Changes the state alone; an image that has it already is left as it is.
 fn turn(image: &mut [u8], from: u64, to: u64)
@@ -75,7 +68,7 @@ pub fn checkpoint(image: &mut [u8], o: Options) -> u32
 // Makes the state INVALIDATED, moves the generation on and renews the CRC.
 fn put_invalidated(image: &mut [u8], generation: u64)
     requires { ⌜ (256 ≤ length (now image)) × (generation ≡ value (now image) generation-name) × (generation % 2 ≡ 0) × (generation ≡ last-generation → ⊥) ⌝ }
-    ensures { λ r. ⌜ now (image .exit) ≡ published (now (image .entry)) ((state-name, 1) ∷ []) ⌝ }
+    ensures { λ r. ⌜ now (image .exit) ≡ published (now (image .entry)) ((state-name, INVALIDATED) ∷ []) ⌝ }
 {
     write(image, fields::GENERATION, generation + GENERATION_STEP);
     write(image, fields::STATE, INVALIDATED);

@@ -1,7 +1,7 @@
 -- `writing::state::put_invalidated` meets its contract.
 -- Assumes nothing.
 use Rattle.header.specs.Fields as F
-use Rattle.header.specs.HeaderTest.{INVALIDATED}
+use Rattle.header.specs.State.{INVALIDATED}
 use Rattle.writing.proofs.StateCode.{wrote-last, publishes}
 use borrow.Author.Needs.{needs}
 use Rattle.writing.proofs.state.put_invalidated.Statement.{statement}
