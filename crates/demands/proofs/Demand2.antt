@@ -15,7 +15,7 @@ use Rattle.header.specs.declared.shape.Judged.the-variants.{Fit}
 use Rattle.header.specs.Fields as F
 use Rattle.header.specs.Fields.{value}
 use Rattle.header.specs.FirstOf.{firstOf}
-use Rattle.header.specs.State.{CLEAN}
+use Rattle.header.specs.State.{CLEAN, withRole}
 use Rattle.header.specs.HeaderTest.{headerTests, headerTest, shapeOf, judged, test1, test2, test3, test4, test5, test6, test7, test8, test9, test10, test11, test12}
 use Rattle.header.specs.Answer.{done}
 use Rattle.header.specs.Open.{openOf}
@@ -39,7 +39,7 @@ use Rattle.commit.specs.Commit.{soundTests, roomTests, furtherTests, commitTest
 use Rattle.maps.specs.Map.{Entry, Map, mapOf}
 use Rattle.maps.proofs.MapSlots.{some-iff}
 use Rattle.maps.proofs.ReadsMap.{lookup-some, lookup-none}
-use Rattle.demands.specs.History.{Word, withRole, writer}
+use Rattle.demands.specs.History.{Word, writer}
 use Rattle.demands.specs.Demand2.{ReadsBack, NoneHolds, Demand2}
 use Rattle.demands.specs.Listings.{RightPattern, Roomy, Lists, Piece}
 use Rattle.demands.specs.Shows.{Shows}

@@ -5,8 +5,9 @@ use mathlib.Core.Path.{_≡_, refl, sym, ap, _∙_}
 use mathlib.Core.Bool.{true}
 use mathlib.Core.List.{List, _++_}
 use native.Mathlib.Omega.{arith}
-use lib.Dec.{T, lit≤}
+use lib.Dec.{lit≤}
 use lib.ListN.{length, take, drop}
+use Rattle.numbers.specs.Bytes.{Bytes}
 use Rattle.header.specs.declared.options.Options.{Options}
 use Rattle.header.specs.declared.open.UserFields.{UserFields}
 use Rattle.header.specs.declared.shape.Shape.{Shape}
@@ -14,11 +15,12 @@ use Rattle.header.specs.Answer.{done}
 use Rattle.header.specs.Fields as F
 use Rattle.header.specs.Fields.{value}
 use Rattle.header.specs.FirstOf.{firstOf}
-use Rattle.header.specs.State.{CLEAN, DIRTY}
-use Rattle.header.specs.HeaderTest.{headerTests, headerTest, shapeOf, test1, test2, test3, test4, test5, test6, test7, test8, test9, test10, test11, test12}
+use Rattle.header.specs.State.{CLEAN, DIRTY, withRole}
+use Rattle.header.specs.HeaderTest.{headerTests, headerTest, shapeOf}
 use Rattle.header.specs.Open.{userFields, noFields}
 use Rattle.header.specs.Sizes.{totalSize}
-use Rattle.header.proofs.Firsts.{named, first-after}
+use Rattle.header.proofs.Firsts.{first-after}
+use Rattle.header.proofs.Stages.{header-named}
 use Rattle.image.specs.Check.{passes}
 use Rattle.writing.specs.Create.{createTests, fresh, createOf}
 use Rattle.writing.specs.State.{inState, writingTests, beginOf, checkpointOf, setUserFieldsOf}
@@ -41,7 +43,7 @@ use Rattle.maps.proofs.MapKept.{kept-map}
 use Rattle.maps.proofs.MapLaw.{commit-map}
 use Rattle.applying.specs.Apply as A
 use Rattle.commit.specs.Commit.{commitTests, commitOf}
-use Rattle.demands.specs.History.{Bytes, Word, withRole, writer, Handed, emptyMap, History, created, moved, begun, checkpointed, marked, marking-refused, committed, commit-refused}
+use Rattle.demands.specs.History.{Word, writer, Handed, emptyMap, History, created, moved, begun, checkpointed, marked, marking-refused, committed, commit-refused}
 use Rattle.demands.proofs.SameBytes.{same-fields, same-value, same-header}
 use Rattle.demands.proofs.SameReading as same-reading
 
@@ -52,11 +54,6 @@ pub record Held (o : Options) (image : List ℕ) (m : Map) (fields : UserFields)
   pub passed : passes (shapeOf image) image ≡ true
   pub map : mapOf (shapeOf image) image ≡ m
   pub user : userFields image ≡ fields
-
--- no test gives 0
-header-named : (o : Options) (image : List ℕ) → T (named (headerTests o image))
-unfolding headerTests test1 test2 test3 test4 test5 test6 test7 test8 test9 test10 test11 test12
-header-named o image = tt
 
 pub create-none : (o : Options) (buffer : List ℕ) → createOf o buffer .answer ≡ 0 → firstOf (createTests o buffer) ≡ 0
 unfolding createOf

@@ -8,7 +8,7 @@ use native.Mathlib.Omega.{arith}
 use lib.Dec.{eqb}
 use lib.ListN.{length, drop, replicate, length-replicate}
 use lib.Seq.{take-all, drop-at}
-use Rattle.numbers.specs.Bytes.{part, put}
+use Rattle.numbers.specs.Bytes.{part, put, Bytes}
 use Rattle.numbers.proofs.Put.{length-put}
 use Rattle.numbers.proofs.PutPart.{part-put-after}
 use Rattle.header.specs.declared.options.Options.{Options}
@@ -29,7 +29,6 @@ use Rattle.writing.proofs.Roles.{writing-named, passed-long}
 use Rattle.commit.specs.Commit.{commitOf}
 use Rattle.maps.proofs.Accepted.{accepted-facts}
 use Rattle.maps.proofs.Committed.{committed-image}
-use Rattle.demands.specs.History.{Bytes}
 use Rattle.demands.specs.PastTotal.{PastTotal, past}
 use Rattle.demands.proofs.SameBytes.{total-shape, same-header}
 use Rattle.demands.proofs.SameReading.{same-open, same-lookup, same-index, same-check, same-scan, same-match}

@@ -7,7 +7,7 @@ use native.Mathlib.Omega.{arith}
 use lib.Dec.{lit<}
 use lib.IntN.{pos, negsuc}
 use lib.ListN.{replicate}
-use Rattle.numbers.specs.Bytes.{part, word, bytesOf, same}
+use Rattle.numbers.specs.Bytes.{part, word, bytesOf, same, Bytes}
 use Rattle.numbers.specs.Signed.{signed}
 use Rattle.header.specs.declared.options.Options.{Options}
 use Rattle.header.specs.declared.open.UserFields.{UserFields}
@@ -22,7 +22,7 @@ use Rattle.batch.specs.Batch.{recordCount, recordAt, metaIn, keyIn}
 use Rattle.commit.specs.Commit.{commitOf}
 use Rattle.maps.specs.Map.{Map, entryIn, actsOn, appliedTo, applied}
 use Rattle.demands.specs.Demand2.{ReadsBack}
-use Rattle.demands.specs.History.{Bytes, writer, emptyMap, History, created, begun, checkpointed, marked, committed, commit-refused}
+use Rattle.demands.specs.History.{writer, emptyMap, History, created, begun, checkpointed, marked, committed, commit-refused}
 use Rattle.demands.specs.Literal.{words, slot, tombstone}
 use Rattle.demands.specs.Owes.{written}
 use Rattle.demands.specs.Story as S

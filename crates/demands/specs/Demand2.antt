@@ -16,7 +16,7 @@ use Rattle.header.specs.Answer.{done, invalidated, not-present}
 use Rattle.header.specs.Fields as F
 use Rattle.header.specs.Fields.{value}
 use Rattle.header.specs.FirstOf.{firstOf}
-use Rattle.header.specs.State.{CLEAN}
+use Rattle.header.specs.State.{CLEAN, withRole}
 use Rattle.header.specs.HeaderTest.{headerTest, shapeOf}
 use Rattle.header.specs.Open.{openOf}
 use Rattle.header.specs.Sizes.{totalSize}
@@ -29,7 +29,7 @@ use Rattle.writing.specs.State.{beginOf, checkpointOf, invalidateOf}
 use Rattle.applying.specs.Apply.{committed}
 use Rattle.commit.specs.Commit.{commitTests, commitOf}
 use Rattle.maps.specs.Map.{Entry, Map}
-use Rattle.demands.specs.History.{Word, withRole, writer, History}
+use Rattle.demands.specs.History.{Word, writer, History}
 use Rattle.demands.specs.Listings.{RightPattern, Roomy, Lists, Piece}
 use Rattle.demands.specs.Shows.{Shows}
 

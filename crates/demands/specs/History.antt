@@ -4,10 +4,12 @@ use Prim.Native.Nat.{ℕ, _^_, _<_}
 use mathlib.Core.Path.{_≡_}
 use mathlib.Core.List.{List}
 use mathlib.Core.Option.{none}
-use lib.ListN.{length, getD, take}
+use lib.ListN.{length, take}
+use Rattle.numbers.specs.Bytes.{Bytes}
 use Rattle.header.specs.declared.options.Options.{Options}
 use Rattle.header.specs.declared.open.UserFields.{UserFields}
 use Rattle.header.specs.Answer.{done}
+use Rattle.header.specs.State.{withRole}
 use Rattle.header.specs.HeaderTest.{shapeOf}
 use Rattle.header.specs.Open.{noFields}
 use Rattle.header.specs.Sizes.{totalSize}
@@ -16,25 +18,11 @@ use Rattle.writing.specs.State.{beginOf, checkpointOf, setUserFieldsOf}
 use Rattle.commit.specs.Commit.{commitOf}
 use Rattle.maps.specs.Map.{Map, applied}
 
--- what is lent are bytes, and what is handed over are numbers of 64 bits: the language sees to both
-abbrev pub Bytes : List ℕ → Type 0
-Bytes s = (i : ℕ) → getD s i 0 < 256
-
+-- what is handed over are numbers of 64 bits, as what is lent are bytes: the language sees to both
 abbrev pub Word : ℕ → Type 0
 Word n = n < 2 ^ 64
 
--- options with another role, and those of the writer: "Role 2: the caller holds the lock"
-abbrev pub withRole : Options → ℕ → Options
-withRole o role =
-    record {
-      «key_size» = o .«key_size»;
-      «index_size» = o .«index_size»;
-      «slot_capacity» = o .«slot_capacity»;
-      «user_version» = o .«user_version»;
-      ordered = o .ordered;
-      role = role;
-    }
-
+-- the writer's options: "Role 2: the caller holds the lock"
 abbrev pub writer : Options → Options
 writer o = withRole o 2
 

@@ -9,7 +9,7 @@ use lib.ListN.{replicate}
 use Rattle.digests.specs.Fnv.{fnv1a64}
 use Rattle.header.specs.declared.options.Options.{Options}
 use Rattle.header.specs.Answer.{done, full, out-of-order}
-use Rattle.header.specs.State.{CLEAN, DIRTY}
+use Rattle.header.specs.State.{CLEAN, DIRTY, withRole}
 use Rattle.header.specs.HeaderTest.{headerTest, shapeOf}
 use Rattle.header.specs.Open.{noFields}
 use Rattle.image.specs.Lookup.{lookupOf}
@@ -17,7 +17,7 @@ use Rattle.writing.specs.Create.{createOf}
 use Rattle.writing.specs.State.{beginOf, checkpointOf}
 use Rattle.commit.specs.Commit.{commitOf}
 use Rattle.maps.specs.Map.{Map, applied}
-use Rattle.demands.specs.History.{withRole, emptyMap, History}
+use Rattle.demands.specs.History.{emptyMap, History}
 use Rattle.demands.specs.Literal.{Layout, words, zeros, header, no-user, slot, bucket, tombstone}
 use Rattle.demands.specs.Owes.{written}
 use Rattle.demands.specs.Story.{Finds, Lacks}

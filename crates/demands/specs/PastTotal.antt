@@ -4,6 +4,7 @@ use Prim.Native.Nat.{ℕ}
 use mathlib.Core.Path.{_≡_}
 use mathlib.Core.List.{List}
 use lib.ListN.{take, drop}
+use Rattle.numbers.specs.Bytes.{Bytes}
 use Rattle.header.specs.declared.options.Options.{Options}
 use Rattle.header.specs.declared.open.UserFields.{UserFields}
 use Rattle.header.specs.HeaderTest.{headerTest}
@@ -16,7 +17,7 @@ use Rattle.listing.specs.Match.{matchOf}
 use Rattle.writing.specs.Create.{createOf}
 use Rattle.writing.specs.State.{beginOf, checkpointOf, invalidateOf, setUserFieldsOf}
 use Rattle.commit.specs.Commit.{commitOf}
-use Rattle.demands.specs.History.{Bytes, Handed}
+use Rattle.demands.specs.History.{Handed}
 
 -- two images have the same bytes up to the total; past it they may go on differently, or one may end there
 abbrev pub SameToTotal : Options → List ℕ → List ℕ → Type 0

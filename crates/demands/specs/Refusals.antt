@@ -9,13 +9,13 @@ use lib.ListN.{take}
 use Rattle.numbers.specs.Bytes.{put}
 use Rattle.header.specs.declared.shape.Shape.{Shape}
 use Rattle.header.specs.FirstOf.{firstOf}
+use Rattle.header.specs.State.{withRole}
 use Rattle.header.specs.HeaderTest.{test1, test2, test3, test4, test5, test6, test7, test8, test9, test10, test11, test12, shapeOf}
 use Rattle.image.specs.Check.{passes}
 use Rattle.image.specs.Lookup.{lookupIn}
 use Rattle.writing.specs.State.{cleanTest, generationTest}
 use Rattle.batch.specs.Batch.{batchWrong}
 use Rattle.host.specs.Options.{optionsOf}
-use Rattle.demands.specs.History.{withRole}
 use Rattle.demands.specs.Literal.{words, zeros, slot, tombstone}
 use Rattle.demands.specs.Story.{options, reader, image5, image6}
 use Rattle.demands.specs.OrderedStory as O

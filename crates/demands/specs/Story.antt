@@ -10,7 +10,7 @@ use Rattle.digests.specs.Fnv.{fnv1a64}
 use Rattle.header.specs.declared.options.Options.{Options}
 use Rattle.header.specs.declared.open.UserFields.{UserFields}
 use Rattle.header.specs.Answer.{done, full, invalidated, not-present}
-use Rattle.header.specs.State.{CLEAN, INVALIDATED, DIRTY}
+use Rattle.header.specs.State.{CLEAN, INVALIDATED, DIRTY, withRole}
 use Rattle.header.specs.HeaderTest.{headerTest, shapeOf}
 use Rattle.header.specs.Open.{noFields, openOf}
 use Rattle.image.specs.Lookup.{lookupOf, indexPart}
@@ -18,7 +18,7 @@ use Rattle.writing.specs.Create.{createOf}
 use Rattle.writing.specs.State.{beginOf, checkpointOf, invalidateOf, setUserFieldsOf}
 use Rattle.commit.specs.Commit.{commitOf}
 use Rattle.maps.specs.Map.{Map, applied}
-use Rattle.demands.specs.History.{withRole, emptyMap, History}
+use Rattle.demands.specs.History.{emptyMap, History}
 use Rattle.demands.specs.Literal.{Layout, words, zeros, header, no-user, slot, bucket, tombstone}
 use Rattle.demands.specs.Owes.{written}
 use Rattle.demands.specs.Shows.{Shows}

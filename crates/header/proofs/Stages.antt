@@ -21,7 +21,11 @@ pub staged : (o : Options) (image : List ℕ) → headerTest o image ≡ firstOf
 unfolding headerTest headerTests
 staged o image = simp append-assoc
 
--- no test of the first stage gives 0
+-- no test gives 0, nor does one of the first stage
+pub header-named : (o : Options) (image : List ℕ) → T (named (headerTests o image))
+unfolding headerTests test1 test2 test3 test4 test5 test6 test7 test8 test9 test10 test11 test12
+header-named o image = tt
+
 pub written-named : (o : Options) (image : List ℕ) → T (named (written o image))
 unfolding test3 test4 test5 test6 test7
 written-named o image = tt

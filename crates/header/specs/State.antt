@@ -1,6 +1,7 @@
 -- The states of an image, the roles of a caller, and the last generation.
 -- Assumes nothing.
 use Prim.Native.Nat.{ℕ}
+use Rattle.header.specs.declared.options.Options.{Options}
 
 -- "State: 0 CLEAN, 1 INVALIDATED, 2 DIRTY."
 abbrev pub CLEAN : ℕ
@@ -21,6 +22,18 @@ another-writer = 1
 
 abbrev pub holds-the-lock : ℕ
 holds-the-lock = 2
+
+-- the same options under another role
+abbrev pub withRole : Options → ℕ → Options
+withRole o role =
+    record {
+      «key_size» = o .«key_size»;
+      «index_size» = o .«index_size»;
+      «slot_capacity» = o .«slot_capacity»;
+      «user_version» = o .«user_version»;
+      ordered = o .ordered;
+      role = role;
+    }
 
 -- "generation 2^64 - 2"
 abbrev pub last-generation : ℕ

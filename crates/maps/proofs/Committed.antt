@@ -15,6 +15,7 @@ use Rattle.header.specs.declared.shape.Shape.{Shape}
 use Rattle.header.specs.Fields as F
 use Rattle.header.specs.Fields.{value}
 use Rattle.header.specs.FirstOf.{firstOf}
+use Rattle.header.specs.State.{withRole}
 use Rattle.header.specs.HeaderTest.{headerTest, shapeOf}
 use Rattle.header.specs.Open.{userFields}
 use Rattle.image.specs.Table.{metaOf, keyOf}
@@ -22,7 +23,6 @@ use Rattle.image.specs.Check.{passes}
 use Rattle.image.proofs.FullCheck.{Whole, passes-whole}
 use Rattle.writing.proofs.Bytes.{Bytes}
 use Rattle.writing.proofs.Tests.{header-holds}
-use Rattle.writing.proofs.Kept.{withRole}
 use Rattle.slots.proofs.Table.Around.{around-bytes, around-shape, SameSlot, same-slot-then}
 use Rattle.slots.proofs.Table.Appended.{Holds, holds-then}
 use Rattle.slots.proofs.Table.Counted as write

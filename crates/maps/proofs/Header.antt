@@ -14,7 +14,7 @@ use Rattle.header.specs.declared.shape.Shape.{Shape}
 use Rattle.header.specs.Fields as F
 use Rattle.header.specs.Fields.{bytesIn, value}
 use Rattle.header.specs.FirstOf.{firstOf}
-use Rattle.header.specs.State.{DIRTY}
+use Rattle.header.specs.State.{DIRTY, withRole}
 use Rattle.header.specs.HeaderTest.{test2, test3, test4, test5, test6, test8, test9, test10, test11, headerTest, shapeOf}
 use Rattle.header.specs.Open.{userFields}
 use Rattle.header.specs.Shaped.{Shaped}
@@ -23,7 +23,7 @@ use Rattle.writing.proofs.Bytes.{Bytes}
 use Rattle.writing.proofs.OneField.{apart}
 use Rattle.writing.proofs.FieldList.{misses}
 use Rattle.writing.proofs.Tests.{Holds, even-passed, header-by-state}
-use Rattle.writing.proofs.Kept.{withRole, any-role}
+use Rattle.writing.proofs.Kept.{any-role}
 use Rattle.writing.proofs.UserLaws.{same-user}
 use Rattle.slots.proofs.Table.Around.{Around, around-bytes}
 use Rattle.slots.proofs.Table.Counted as write

@@ -9,12 +9,12 @@ use Rattle.header.specs.declared.options.Options.{Options}
 use Rattle.header.specs.declared.shape.Shape.{Shape}
 use Rattle.header.specs.Fields as F
 use Rattle.header.specs.FirstOf.{firstOf}
+use Rattle.header.specs.State.{withRole}
 use Rattle.header.specs.HeaderTest.{shapeOf}
 use Rattle.image.proofs.FullCheck.{passes-whole}
 use Rattle.writing.specs.Create.{createTests, createOf}
 use Rattle.writing.proofs.OneField.{Fits}
 use Rattle.writing.proofs.Bytes.{Bytes}
-use Rattle.writing.proofs.Kept.{withRole}
 use Rattle.writing.proofs.Fresh.{fresh-header}
 use Rattle.writing.proofs.FreshTable.{fresh-shape, fresh-passes}
 use Rattle.maps.specs.Map.{mapOf}

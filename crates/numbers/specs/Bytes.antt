@@ -1,10 +1,14 @@
--- Bytes in lists: parts, words, tests and changes. The lists that code lends hold bytes, numbers below 256.
+-- Bytes in lists: parts, words, tests and changes.
 -- Assumes nothing.
-use Prim.Native.Nat.{ℕ, zero, suc, _+_, _*_, _/_, _%_}
+use Prim.Native.Nat.{ℕ, zero, suc, _+_, _*_, _/_, _%_, _<_}
 use mathlib.Core.Bool.{Bool, true, false, _&&_, _||_}
 use mathlib.Core.List.{List, [], _∷_, _++_}
 use lib.Dec.{eqb, ltb}
-use lib.ListN.{length, take, drop}
+use lib.ListN.{length, getD, take, drop}
+
+-- a list of bytes, as every list is that code lends: numbers below 256
+abbrev pub Bytes : List ℕ → Type 0
+Bytes s = (i : ℕ) → getD s i 0 < 256
 
 -- the n bytes of s from offset at
 unfoldable pub part : List ℕ → ℕ → ℕ → List ℕ

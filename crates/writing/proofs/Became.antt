@@ -13,7 +13,7 @@ use Rattle.header.specs.declared.options.Options.{Options}
 use Rattle.header.specs.Fields as F
 use Rattle.header.specs.Fields.{fieldOf, value}
 use Rattle.header.specs.FirstOf.{firstOf}
-use Rattle.header.specs.State.{CLEAN, INVALIDATED, DIRTY}
+use Rattle.header.specs.State.{CLEAN, INVALIDATED, DIRTY, withRole}
 use Rattle.header.specs.HeaderTest.{headerTest, shapeOf}
 use Rattle.image.specs.Table.{tableOf}
 use Rattle.writing.specs.Write.{withField, withFields, sealed}
@@ -21,7 +21,7 @@ use Rattle.writing.proofs.Bytes.{Bytes, put-bytes, bytes-of-bytes}
 use Rattle.writing.proofs.FieldList.{Fitting, after, fields-length, fields-value}
 use Rattle.writing.proofs.Seal.{seal-other, seal-crc}
 use Rattle.writing.proofs.Tests.{even-passed, crc-passed, state-passed, header-holds, stateTests}
-use Rattle.writing.proofs.Kept.{withRole, Kept, passing, kept-written, header-kept}
+use Rattle.writing.proofs.Kept.{Kept, passing, kept-written, header-kept}
 use Rattle.writing.proofs.KeptTable.{moved, kept-shape, same-table}
 
 pub record Became (o : Options) (image image′ : List ℕ) (state generation : ℕ) : Type 0 where

@@ -6,15 +6,13 @@ use mathlib.Core.List.{List, [], _∷_, _++_}
 use native.Mathlib.Nat.{mod-lt, pow-succ'}
 use native.Mathlib.Omega.{arith}
 use lib.Dec.{lit<}
-use lib.ListN.{length, getD, take, drop, replicate}
+use lib.ListN.{length, take, drop, replicate}
 use lib.Seq.{getD-drop}
+pub use Rattle.numbers.specs.Bytes.{Bytes}
 use Rattle.numbers.specs.Bytes.{part, word, bytesOf, put}
 use Rattle.numbers.proofs.Put.{length-part}
 use Rattle.header.specs.Fields.{bytesIn, value, fieldOf}
 use Rattle.writing.proofs.OneField.{Fits, in-header}
-
-abbrev pub Bytes : List ℕ → Type 0
-Bytes s = (i : ℕ) → getD s i 0 < 256
 
 -- bytes in a list, and in another put into it, are bytes
 pub append-bytes : (a b : List ℕ) → Bytes a → Bytes b → Bytes (a ++ b)

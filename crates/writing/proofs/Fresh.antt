@@ -12,6 +12,7 @@ use Rattle.header.specs.declared.options.Options.{Options}
 use Rattle.header.specs.Fields as F
 use Rattle.header.specs.Fields.{fieldOf, bytesIn, value}
 use Rattle.header.specs.FirstOf.{firstOf}
+use Rattle.header.specs.State.{withRole}
 use Rattle.header.specs.HeaderTest.{test1, headerTest}
 use Rattle.header.specs.Open.{userFields, noFields}
 use Rattle.header.specs.Sizes.{totalSize}
@@ -26,7 +27,6 @@ use Rattle.writing.proofs.FieldList.{Fitting, after, misses, fields-len
 use Rattle.writing.proofs.Bytes.{Bytes, append-bytes, drop-bytes, replicate-bytes}
 use Rattle.writing.proofs.Seal.{seal-length, seal-bytes, seal-other, seal-behind, seal-crc, seal-append}
 use Rattle.writing.proofs.Tests.{header-by-state}
-use Rattle.writing.proofs.Kept.{withRole}
 use Rattle.writing.proofs.Became.{fields-are-bytes, sealed-is-bytes}
 use Rattle.writing.proofs.Zeros.{word-zeros, part-append, part-zeros}
 use Rattle.writing.proofs.Answers.{accepted}

@@ -12,6 +12,7 @@ use Rattle.header.specs.declared.options.Options.{Options}
 use Rattle.header.specs.Fields as F
 use Rattle.header.specs.Fields.{bytesIn, value}
 use Rattle.header.specs.FirstOf.{firstOf}
+use Rattle.header.specs.State.{withRole}
 use Rattle.header.specs.HeaderTest.{test1, test2, test3, test4, test5, test6, test8, test9, test10, test11}
 use Rattle.header.specs.Sizes.{slotSize, bucketCount, bucketsOffset, totalSize}
 use Rattle.header.proofs.Allowed.{allowed}
@@ -22,7 +23,7 @@ use Rattle.writing.specs.Create.{freshFields}
 use Rattle.writing.proofs.OneField.{apart}
 use Rattle.writing.proofs.FieldList.{after}
 use Rattle.writing.proofs.Tests.{Holds}
-use Rattle.writing.proofs.Kept.{withRole, any-role}
+use Rattle.writing.proofs.Kept.{any-role}
 use Rattle.writing.proofs.Zeros.{all-zeros}
 use Rattle.writing.proofs.Making.{total-low, ordered-passed}
 

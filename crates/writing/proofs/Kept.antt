@@ -14,6 +14,7 @@ use Rattle.header.specs.declared.options.Options.{Options}
 use Rattle.header.specs.Fields as F
 use Rattle.header.specs.Fields.{bytesIn, value}
 use Rattle.header.specs.FirstOf.{firstOf}
+use Rattle.header.specs.State.{withRole}
 use Rattle.header.specs.HeaderTest.{test1, test2, test3, test4, test5, test6, test8, test9, test10, test11, headerTest}
 use Rattle.header.specs.Sizes.{sizesAllowed}
 use Rattle.header.proofs.Firsts.{fails, neither}
@@ -22,18 +23,6 @@ use Rattle.writing.proofs.OneField.{apart}
 use Rattle.writing.proofs.FieldList.{together, both, misses, fields-apart, fields-length, fields-bytes, fields-behind}
 use Rattle.writing.proofs.Seal.{seal-length, seal-bytes, seal-behind}
 use Rattle.writing.proofs.Tests.{Holds, stateTests, header-by-state}
-
--- the same options under another role
-abbrev pub withRole : Options → ℕ → Options
-withRole o role =
-    record {
-      «key_size» = o .«key_size»;
-      «index_size» = o .«index_size»;
-      «slot_capacity» = o .«slot_capacity»;
-      «user_version» = o .«user_version»;
-      ordered = o .ordered;
-      role = role;
-    }
 
 -- test 1 does not ask which of the three roles it is
 pub any-role : (o : Options) (role : ℕ) → role ≤ 2 → firstOf (test1 o) ≡ 0 → firstOf (test1 (withRole o role)) ≡ 0

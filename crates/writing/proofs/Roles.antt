@@ -19,23 +19,20 @@ use Rattle.header.specs.HeaderTest.{test1, test2, test3, test4, test5, test6, t
 use Rattle.header.proofs.Firsts.{named, first-stops, first-none}
 use Rattle.header.proofs.Fit.{fit-number, fit-shape, refused-number}
 use Rattle.header.proofs.Said.{length-passed}
+use Rattle.header.proofs.Stages.{header-named}
 use Rattle.writing.specs.State.{writingTests}
 use Rattle.writing.proofs.Told.{toldBy, tells-number}
 use Rattle.writing.proofs.Tests.{past, even-passed, Holds, header-holds}
 
 module _ (o : Options) (image : List ℕ) where
   -- no test gives 0
-  header-named : T (named (headerTests o image))
-  unfolding headerTests test1 test2 test3 test4 test5 test6 test7 test8 test9 test10 test11 test12
-  header-named = tt
-
   pub writing-named : T (named (writingTests o image))
   unfolding writingTests headerTests test1 test2 test3 test4 test5 test6 test7 test8 test9 test10 test11 test12
   writing-named = tt
 
   role-decides : headerTest o image ≡ 0 → firstOf (writingTests o image) ≡ firstOf ((eqb (o .role) another-writer, busy) ∷ (eqb (o .role) no-writer-known, invalid-input) ∷ [])
   unfolding writingTests headerTest
-  role-decides z = past (headerTests o image) _ header-named z
+  role-decides z = past (headerTests o image) _ (header-named o image) z
 
   -- what a writer is told, by the judgement and the role
   module _ {s : Shape} (e : judged o image ≡ Fit s) where
@@ -63,7 +60,7 @@ module _ (o : Options) (image : List ℕ) where
   module _ (z : firstOf (writingTests o image) ≡ 0) where
     pub passed-header : headerTest o image ≡ 0
     unfolding writingTests headerTest
-    passed-header = first-none (headerTests o image) _ header-named z .0
+    passed-header = first-none (headerTests o image) _ (header-named o image) z .0
 
     holds : Holds o image
     holds = header-holds o image passed-header
