@@ -1,2 +1,2 @@
 pub mod Behind
-pub mod Further
+pub mod Groups

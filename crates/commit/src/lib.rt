@@ -1,3 +1,3 @@
 // Judging a batch and committing it.
 pub mod commit;
-mod tests;
+mod further;

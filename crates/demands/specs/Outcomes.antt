@@ -25,7 +25,7 @@ use Rattle.header.proofs.fields.field_of.Reads as field-of-reads
 use Rattle.header.proofs.fields.read.Reads as read-reads
 use Rattle.header.proofs.fields.bytes_in.Reads as bytes-in-reads
 use Rattle.header.proofs.judge.judge.Reads as judge-reads
-use Rattle.header.proofs.options.options_test.Reads as options-test-reads
+use Rattle.header.proofs.judge.options_test.Reads as options-test-reads
 use Rattle.header.proofs.sizes.sizes_allowed.Reads as sizes-allowed-reads
 use Rattle.header.proofs.sizes.align8.Reads as align8-reads
 use Rattle.header.proofs.sizes.slot_size.Reads as slot-size-reads
@@ -109,7 +109,6 @@ pub record Outcomes : Type 2 where
   pub bytes-in : One bytes-in-reads.Post (λ κ x e. now x)
   -- header, judge
   pub judge : One judge-reads.Post (λ κ x e. x)
-  -- header, options
   pub options-test : One options-test-reads.Post (λ κ x e. x)
   -- header, sizes
   pub sizes-allowed : One sizes-allowed-reads.Post (λ κ x e. x)

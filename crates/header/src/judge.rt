@@ -6,38 +6,51 @@ ghost use Prim.Native.Nat.{_≤_};
 ghost use lib.ListN.{length};
 ghost use Rattle.header.specs.Sizes.{sizesAllowed};
 ghost use Rattle.header.specs.FirstOf.{firstOf};
-ghost use Rattle.header.specs.HeaderTest.{test3, test4, test5, test6, test7, test8, test9, test10, test11, test12, headerTest, shapeOf, judged};
+ghost use Rattle.header.specs.HeaderTest.{test1, test3, test4, test5, test6, test7, test8, test9, test10, test11, test12, headerTest, shapeOf, judged};
 use crate::answer::DONE;
+use crate::answer::INVALID_INPUT;
+use crate::answer::refuse;
 use crate::fields;
 use crate::fields::read;
 use crate::options::Options;
-use crate::options::options_test;
+use crate::points;
 use crate::shape::Judged;
 use crate::shape::Shape;
-use crate::tests;
+use crate::sizes::sizes_allowed;
+use crate::state::HOLDS_THE_LOCK;
+
+// 1. Options outside the sizes, ordered above 1, or role above 2.
+pub fn options_test(o: Options) -> u32
+    ensures { λ r. ⌜ r ≡ firstOf (test1 o) ⌝ }
+{
+    refuse(
+        !sizes_allowed(o) | (1 < o.ordered) | (HOLDS_THE_LOCK < o.role),
+        INVALID_INPUT,
+    )
+}
 
 // Tests 3 to 7: whether this is an SLC1 header that was written whole and may be used.
 fn written_test(image: &[u8], o: Options) -> u32
     requires { ⌜ 256 ≤ length (now image) ⌝ }
     ensures { λ r. ⌜ r ≡ firstOf (test3 (now (image .entry)) ++ (test4 o (now (image .entry)) ++ (test5 (now (image .entry)) ++ (test6 (now (image .entry)) ++ test7 (now (image .entry)))))) ⌝ }
 {
-    let format = tests::format_test(image);
+    let format = points::format_test(image);
     if format != DONE {
         return format;
     }
-    let generation = tests::generation_test(image, o);
+    let generation = points::generation_test(image, o);
     if generation != DONE {
         return generation;
     }
-    let crc = tests::crc_test(image);
+    let crc = points::crc_test(image);
     if crc != DONE {
         return crc;
     }
-    let known = tests::known_test(image);
+    let known = points::known_test(image);
     if known != DONE {
         return known;
     }
-    tests::invalidated_test(image)
+    points::invalidated_test(image)
 }
 
 // Tests 8 to 12: whether the header fits the options, the rules and the image.
@@ -45,23 +58,23 @@ fn fitting_test(image: &[u8], o: Options) -> u32
     requires { ⌜ (256 ≤ length (now image)) × (sizesAllowed o ≡ true) ⌝ }
     ensures { λ r. ⌜ r ≡ firstOf (test8 o (now (image .entry)) ++ (test9 o (now (image .entry)) ++ (test10 (now (image .entry)) ++ (test11 (now (image .entry)) ++ test12 o (now (image .entry)))))) ⌝ }
 {
-    let agreement = tests::agreement_test(image, o);
+    let agreement = points::agreement_test(image, o);
     if agreement != DONE {
         return agreement;
     }
-    let buckets = tests::buckets_test(image, o);
+    let buckets = points::buckets_test(image, o);
     if buckets != DONE {
         return buckets;
     }
-    let extent = tests::extent_test(image, o);
+    let extent = points::extent_test(image, o);
     if extent != DONE {
         return extent;
     }
-    let counters = tests::counters_test(image);
+    let counters = points::counters_test(image);
     if counters != DONE {
         return counters;
     }
-    tests::dirty_test(image, o)
+    points::dirty_test(image, o)
 }
 
 // The header test's number, 0 where the image passes.
@@ -72,7 +85,7 @@ fn header_test(image: &[u8], o: Options) -> u32
     if options != DONE {
         return options;
     }
-    let length = tests::length_test(image);
+    let length = points::length_test(image);
     if length != DONE {
         return length;
     }

@@ -4,7 +4,7 @@ pub mod fields;
 pub mod judge;
 pub mod open;
 pub mod options;
+mod points;
 pub mod shape;
 pub mod sizes;
 pub mod state;
-mod tests;

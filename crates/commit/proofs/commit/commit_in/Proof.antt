@@ -5,7 +5,7 @@ use native.Mathlib.Omega.{arith}
 use Rattle.writing.proofs.Answers.{says-refused, says-accepted}
 use Rattle.batch.specs.News.{newCount, newsBelow}
 use Rattle.batch.proofs.Marks.{told-count, told-marked}
-use Rattle.commit.proofs.Further.{sound-stops, room-decides, sound-small, room-enough}
+use Rattle.commit.proofs.Groups.{sound-stops, room-decides, sound-small, room-enough}
 use borrow.Author.Needs.{needs}
 use Rattle.commit.proofs.commit.commit_in.Statement.{statement}
 use Rattle.commit.proofs.commit.commit_in.Tie as tie
