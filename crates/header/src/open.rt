@@ -36,13 +36,16 @@ fn user_fields(image: &[u8]) -> UserFields
     }
 }
 
-// What stands in their place where the image is refused: zeros.
-fn no_fields() -> UserFields
-    ensures { λ r. ⌜ r ≡ noFields ⌝ }
+// A refusal: all else returned is 0.
+fn refused(answer: u32) -> Opened
+    ensures { λ r. ⌜ r ≡ record { answer = answer; fields = noFields } ⌝ }
 {
-    UserFields {
-        user_flags: 0,
-        user_data: [0u8; 64],
+    Opened {
+        answer,
+        fields: UserFields {
+            user_flags: 0,
+            user_data: [0u8; 64],
+        },
     }
 }
 
@@ -55,9 +58,6 @@ pub fn open_check(image: &[u8], o: Options) -> Opened
             answer: DONE,
             fields: user_fields(image),
         },
-        Judged::Refused(number) => Opened {
-            answer: number,
-            fields: no_fields(),
-        },
+        Judged::Refused(number) => refused(number),
     }
 }

@@ -7,8 +7,7 @@ ghost use Rattle.probing.specs.Check.{bucketRight, neverFall};
 ghost use Rattle.header.specs.Shaped.{Shaped};
 ghost use Rattle.image.specs.Table.{tableOf};
 ghost use Rattle.image.specs.Tally.{bucketsTo, slotsTo};
-ghost use Rattle.image.specs.Check.{passes, checkIn, checkOf};
-ghost use Rattle.image.specs.Check.{failed as refused};
+ghost use Rattle.image.specs.Check.{failed, passes, checkIn, checkOf};
 use crate::probe::Probe;
 use crate::probe::hash64_at;
 use crate::probe::key_part;
@@ -199,8 +198,8 @@ fn order_right(image: &[u8], s: Shape) -> bool
 }
 
 // A refusal: all else returned is 0.
-fn failed(answer: u32) -> Checked
-    ensures { λ r. ⌜ r ≡ refused answer ⌝ }
+fn refused(answer: u32) -> Checked
+    ensures { λ r. ⌜ r ≡ failed answer ⌝ }
 {
     Checked {
         answer,
@@ -228,7 +227,7 @@ fn check_in(image: &[u8], s: Shape) -> Checked
             probes: slots.probes,
         };
     }
-    failed(NEEDS_REBUILD)
+    refused(NEEDS_REBUILD)
 }
 
 // Whether an image that passed the header test passes the full check.
@@ -246,6 +245,6 @@ pub fn full_check(image: &[u8], o: Options) -> Checked
     let judged = judge(image, o);
     match judged {
         Judged::Fit(s) => check_in(image, s),
-        Judged::Refused(answer) => failed(answer),
+        Judged::Refused(answer) => refused(answer),
     }
 }

@@ -27,8 +27,8 @@ pub struct Lookup {
     pub buckets: u64,
 }
 
-// An answer with all else zero.
-fn nothing(answer: u32) -> Lookup
+// A refusal: all else returned is 0.
+fn refused(answer: u32) -> Lookup
     ensures { λ r. ⌜ r ≡ nothing answer ⌝ }
 {
     Lookup {
@@ -74,7 +74,7 @@ pub fn lookup_in(image: &[u8], s: Shape, key: &[u8]) -> Lookup
     ensures { λ r. ⌜ r ≡ lookupIn s (now (image .entry)) (now (key .entry)) ⌝ }
 {
     if key.len() != s.key_size {
-        return nothing(INVALID_INPUT);
+        return refused(INVALID_INPUT);
     }
     let probed = probe_for(image, s, key);
     match probed {
@@ -93,7 +93,7 @@ pub fn lookup_in(image: &[u8], s: Shape, key: &[u8]) -> Lookup
             revision: 0,
             buckets: buckets as u64,
         },
-        Probe::Broken => nothing(NEEDS_REBUILD),
+        Probe::Broken => refused(NEEDS_REBUILD),
     }
 }
 
@@ -104,7 +104,7 @@ pub fn look_up(image: &[u8], o: Options, key: &[u8]) -> Lookup
     let judged = judge(image, o);
     match judged {
         Judged::Fit(s) => lookup_in(image, s, key),
-        Judged::Refused(answer) => nothing(answer),
+        Judged::Refused(answer) => refused(answer),
     }
 }
 

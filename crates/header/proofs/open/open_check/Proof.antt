@@ -23,8 +23,8 @@ user-fields-requires c κs =
 enum-known-number : tie.Need-enum-known-number
 enum-known-number c = search needs
 
-no-fields-requires : tie.Need-no-fields-requires
-no-fields-requires c κs = search needs
+refused-requires : tie.Need-refused-requires
+refused-requires c κs = search needs
 
 returns : tie.Need-returns
 unfolding openOf
@@ -36,7 +36,7 @@ returns-2 : tie.Need-returns-2
 unfolding openOf
 returns-2 c =
     let a = c .before .before .before .before .before .before .args in
-    rw (after-refused (a .o) (now (a .image)) _ _ _ (sym (c .before .before .before .before .judge .ensures) ∙ c .before .before .number .given .1), c .no-fields .ensures) refl
+    rw (after-refused (a .o) (now (a .image)) _ _ _ (sym (c .before .before .before .before .judge .ensures) ∙ c .before .before .number .given .1), c .refused .ensures) refl
 
 pub open-check-spec : {M : Type 1} → statement M
 open-check-spec =
@@ -46,6 +46,6 @@ open-check-spec =
     enum-told
     user-fields-requires
     enum-known-number
-    no-fields-requires
+    refused-requires
     returns
     returns-2)

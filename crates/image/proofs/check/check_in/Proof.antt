@@ -43,13 +43,13 @@ returns c =
     (tally-probes (a .s) (a .image .now) (y .result) (z .result) (y .ensures) (z .ensures))
     ∙ check-passed (a .s) (a .image .now) (sym (tested (c .before)) ∙ c .if1 .taken)
 
-failed-requires : tie.Need-failed-requires
-failed-requires c κs = search needs
+refused-requires : tie.Need-refused-requires
+refused-requires c κs = search needs
 
 returns-2 : tie.Need-returns-2
 returns-2 c =
     let a = c .before .before .before .before .before .before .before .before .before .before .before .before .args in
-    c .failed .ensures ∙ check-failed (a .s) (a .image .now) (sym (tested (c .before .before)) ∙ c .before .if1 .left)
+    c .refused .ensures ∙ check-failed (a .s) (a .image .now) (sym (tested (c .before .before)) ∙ c .before .if1 .left)
 
 pub check-in-spec : {M : Type 1} → statement M
 check-in-spec =
@@ -59,5 +59,5 @@ check-in-spec =
     read-slots-requires
     order-right-requires
     returns
-    failed-requires
+    refused-requires
     returns-2)

@@ -21,8 +21,8 @@ check-in-requires c κs =
 enum-known-judged-2 : tie.Need-enum-known-judged-2
 enum-known-judged-2 c = search needs
 
-failed-requires : tie.Need-failed-requires
-failed-requires c κs = search needs
+refused-requires : tie.Need-refused-requires
+refused-requires c κs = search needs
 
 returns : tie.Need-returns
 returns c =
@@ -32,7 +32,7 @@ returns c =
 returns-2 : tie.Need-returns-2
 returns-2 c =
     let a = c .before .before .before .before .before .before .args in
-    c .failed .ensures ∙ checked-refused (a .o) (a .image .now) _ (sym (c .before .before .before .before .judge .ensures) ∙ c .before .before .judged2 .given .1)
+    c .refused .ensures ∙ checked-refused (a .o) (a .image .now) _ (sym (c .before .before .before .before .judge .ensures) ∙ c .before .before .judged2 .given .1)
 
 pub full-check-spec : {M : Type 1} → statement M
 full-check-spec =
@@ -42,6 +42,6 @@ full-check-spec =
     enum-known-judged
     check-in-requires
     enum-known-judged-2
-    failed-requires
+    refused-requires
     returns
     returns-2)

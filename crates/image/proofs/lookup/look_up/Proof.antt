@@ -21,8 +21,8 @@ lookup-in-requires c κs =
 enum-known-judged-2 : tie.Need-enum-known-judged-2
 enum-known-judged-2 c = search needs
 
-nothing-requires : tie.Need-nothing-requires
-nothing-requires c κs = search needs
+refused-requires : tie.Need-refused-requires
+refused-requires c κs = search needs
 
 returns : tie.Need-returns
 returns c =
@@ -34,7 +34,7 @@ returns c =
 returns-2 : tie.Need-returns-2
 returns-2 c =
     let a = c .before .before .before .before .before .before .before .args in
-    c .nothing .ensures
+    c .refused .ensures
     ∙ looked-refused (a .o) (a .image .now) (a .key .now) _
     (sym (c .before .before .before .before .judge .ensures) ∙ c .before .before .judged2 .given .1)
 
@@ -46,6 +46,6 @@ look-up-spec =
     enum-known-judged
     lookup-in-requires
     enum-known-judged-2
-    nothing-requires
+    refused-requires
     returns
     returns-2)

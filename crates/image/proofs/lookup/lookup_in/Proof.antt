@@ -26,13 +26,13 @@ looked c r e =
     let a = c .before .before .before .before .before .args in
     looked-by (a .s) (a .image .now) (a .key .now) (c .before .if1 .left) (heard r) (ended c r e)
 
-nothing-requires : tie.Need-nothing-requires
-nothing-requires c κs = search needs
+refused-requires : tie.Need-refused-requires
+refused-requires c κs = search needs
 
 returns : tie.Need-returns
 returns c =
     let a = c .before .before .before .before .before .args in
-    c .nothing .ensures ∙ looked-other (a .s) (a .image .now) (a .key .now) (c .before .if1 .taken)
+    c .refused .ensures ∙ looked-other (a .s) (a .image .now) (a .key .now) (c .before .if1 .taken)
 
 probe-for-requires : tie.Need-probe-for-requires
 probe-for-requires c κs = search needs
@@ -53,8 +53,8 @@ enum-known-probed-2 c = search needs
 enum-told : tie.Need-enum-told
 enum-told c = search needs
 
-nothing-requires-2 : tie.Need-nothing-requires-2
-nothing-requires-2 c κs = search needs
+refused-requires-2 : tie.Need-refused-requires-2
+refused-requires-2 c κs = search needs
 
 returns-2 : tie.Need-returns-2
 returns-2 c =
@@ -67,20 +67,20 @@ returns-3 : tie.Need-returns-3
 returns-3 c = looked (c .before .before .before) _ (c .before .probed2 .given .1)
 
 returns-4 : tie.Need-returns-4
-returns-4 c = c .nothing2 .ensures ∙ looked (c .before .before .before) _ (c .before .enum-told .given .1)
+returns-4 c = c .refused2 .ensures ∙ looked (c .before .before .before) _ (c .before .enum-told .given .1)
 
 pub lookup-in-spec : {M : Type 1} → statement M
 lookup-in-spec =
     tie.close
     (tie.spec
-    nothing-requires
+    refused-requires
     returns
     probe-for-requires
     enum-known-probed
     revision-at-requires
     enum-known-probed-2
     enum-told
-    nothing-requires-2
+    refused-requires-2
     returns-2
     returns-3
     returns-4)
