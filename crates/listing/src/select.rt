@@ -4,7 +4,7 @@ ghost use Prim.Native.Nat.{_+_, _-_, min, _≤_, _<_};
 ghost use mathlib.Core.List.{_++_};
 ghost use lib.ListN.{length, take, drop};
 ghost use Rattle.header.specs.Shaped.{Shaped};
-ghost use Rattle.listing.specs.Scan.{matches, list};
+ghost use Rattle.listing.specs.Scan.{Lists, matches, list};
 ghost use Rattle.listing.specs.Match.{agrees};
 ghost use Rattle.listing.specs.Select.{wantedAt, wantedBelow, RightPattern, Next};
 use crate::bits::agrees_at;
@@ -144,8 +144,7 @@ pub fn select(
 ) -> Listed
     requires { ⌜ Shaped s (now image) ⌝ }
     requires { ⌜ RightPattern s offset bits (now pattern) ⌝ }
-    ensures { λ r. ⌜ r ≡ list (matches s (now (image .entry)) (agrees offset bits (now (pattern .entry)))) skip limit (now (numbers .entry)) .listed ⌝ }
-    ensures { λ r. ⌜ now (numbers .exit) ≡ list (matches s (now (image .entry)) (agrees offset bits (now (pattern .entry)))) skip limit (now (numbers .entry)) .numbers ⌝ }
+    ensures { λ r. ⌜ Lists (list (matches s (now (image .entry)) (agrees offset bits (now (pattern .entry)))) skip limit (now (numbers .entry))) r (now (numbers .exit)) ⌝ }
 {
     let total = count_wanted(image, s, offset, bits, pattern) as u64;
     let count = to_write(total, skip, limit);
