@@ -3,7 +3,7 @@
 use Prim.Native.Nat.{ℕ, _+_, _<_}
 use mathlib.Core.Bool.{Bool}
 use mathlib.Core.Logic.{⊎-elim}
-use mathlib.Core.Path.{_≡_, _∙_, ap}
+use mathlib.Core.Path.{_≡_, refl, _∙_, ap}
 use mathlib.Core.List.{List, [], _∷_, _++_}
 use native.Mathlib.Nat.{eq-or-lt-of-le}
 use native.Mathlib.Omega.{arith}
@@ -12,12 +12,16 @@ use Rattle.listing.specs.Scan.{passing}
 use Rattle.listing.specs.Select.{Next}
 use Rattle.listing.proofs.Passing.{passing-yes}
 
-module _ (bound : ℕ) (p : ℕ → Bool) (n r : ℕ) (next : Next bound p n r) where
+module _ {bound : ℕ} {p : ℕ → Bool} {n r : ℕ} (next : Next bound p n r) where
   -- while not all are found, there is a next one
   pub next-below : length (passing n p) < length (passing bound p) → r < bound
   next-below l =
       ⊎-elim (λ e. absurd (omega (arith, ap length (next .none), ap (λ (k : ℕ). length (passing k p)) e))) (λ m. m)
       (eq-or-lt-of-le {n = r} {m = bound} (next .within))
+
+  -- from the one found on, it is itself the next
+  pub next-itself : Next bound p r r
+  next-itself = record { from = omega arith; within = next .within; none = refl; passes = next .passes }
 
   module _ (l : r < bound) where
     -- and with it one more is found

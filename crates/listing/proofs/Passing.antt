@@ -25,10 +25,6 @@ module _ (p : ℕ → Bool) where
   unfolding passing
   passing-no n e = rw (add-one n, e) (append-nil _)
 
-  -- where it passes, the list has one more
-  pub one-more : (n : ℕ) → p n ≡ true → length (passing (n + 1) p) ≡ length (passing n p) + 1
-  one-more n e = ap length (passing-yes n e) ∙ length-append (passing n p) (n ∷ [])
-
   -- numbers more only add at the end
   passing-add : (n k : ℕ) → (rest : List ℕ) × (passing (n + k) p ≡ passing n p ++ rest)
   unfolding passing

@@ -44,7 +44,7 @@ module _ (s : Shape) (offset bits : ℕ) (pattern : List ℕ) where
           rw (ne-eqb bits 0 some, eq-eqb (length pattern) ((bits + 7) / 8) bytes) (past (s .«key_size») (length pattern) offset h)
 
   -- a pattern that is not wrong fits the keys
-  pub not-wrong : patternWrong s offset bits pattern ≡ false → RightPattern s offset bits pattern
+  pub not-wrong : patternWrong s offset bits pattern ≡ false → RightPattern (s .«key_size») offset bits pattern
   unfolding patternWrong
   not-wrong e =
       let bytes : Bool = eqb (length pattern) ((bits + 7) / 8) in

@@ -4,3 +4,4 @@ pub mod listed;
 pub mod matching;
 pub mod scan;
 mod select;
+mod wanted;

@@ -7,6 +7,7 @@ ghost use Rattle.listing.specs.Match.{patternWrong, matchIn, matchOf};
 use crate::listed::Listed;
 use crate::listed::refused;
 use crate::select::select;
+use crate::wanted::Wanted;
 use header::answer::INVALID_INPUT;
 use header::judge::judge;
 use header::options::Options;
@@ -54,16 +55,11 @@ fn match_in(
     if pattern_wrong(s, offset, bits, pattern) {
         return refused(INVALID_INPUT);
     }
-    select(
-        image,
-        s,
-        offset as usize,
-        bits as usize,
-        pattern,
-        skip,
-        limit,
-        numbers,
-    )
+    let wanted = Wanted::Bits {
+        offset: offset as usize,
+        bits: bits as usize,
+    };
+    select(image, s, wanted, pattern, skip, limit, numbers)
 }
 
 // Lists the live slots of an image whose keys have the pattern's bits, most significant first, from a byte offset on: their

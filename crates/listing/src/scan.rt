@@ -4,6 +4,7 @@ ghost use Rattle.listing.specs.Scan.{Lists, scanOf};
 use crate::listed::Listed;
 use crate::listed::refused;
 use crate::select::select;
+use crate::wanted::Wanted;
 use header::judge::judge;
 use header::options::Options;
 use header::shape::Judged;
@@ -15,7 +16,7 @@ pub fn scan(image: &[u8], o: Options, skip: u64, limit: u64, numbers: &mut [u32]
 {
     let judged = judge(image, o);
     match judged {
-        Judged::Fit(s) => select(image, s, 0, 0, &image[0..0], skip, limit, numbers),
+        Judged::Fit(s) => select(image, s, Wanted::All, &image[0..0], skip, limit, numbers),
         Judged::Refused(answer) => refused(answer),
     }
 }

@@ -2,6 +2,7 @@
 -- Assumes nothing.
 use mathlib.Core.Path.{sym, _∙_, refl}
 use Rattle.listing.specs.Match.{matchIn}
+use Rattle.listing.specs.Select.{test, Right}
 use Rattle.listing.proofs.Pattern.{not-wrong}
 use borrow.Author.Needs.{needs}
 use Rattle.listing.proofs.matching.match_in.Statement.{statement}
@@ -19,6 +20,7 @@ returns c =
     rw (sym (c .before .before .pattern-wrong .ensures) ∙ c .before .if1 .taken) (c .refused .ensures, refl)
 
 select-requires : tie.Need-select-requires
+unfolding Right
 select-requires c κs =
     let d = c .before .before .before .before .before .before in
     let a = d .args in
@@ -28,7 +30,7 @@ same-length : tie.Need-same-length
 same-length c = search needs
 
 returns-2 : tie.Need-returns-2
-unfolding matchIn
+unfolding matchIn test
 returns-2 c =
     rw (sym (c .before .before .before .before .before .pattern-wrong .ensures) ∙ c .before .before .before .before .if1 .left)
     (c .before .before .select .ensures)

@@ -1,14 +1,12 @@
 -- `listing::scan::scan` meets its contract.
 -- Assumes nothing.
-use native.Mathlib.Omega.{arith}
 use mathlib.Core.Bool.{true}
 use mathlib.Core.Path.{refl, sym, _∙_}
-use Rattle.probing.specs.Counting.{allTo}
 use Rattle.header.specs.declared.shape.Shape.{Shape}
 use Rattle.header.proofs.Fit.{fit-shaped}
 use Rattle.image.proofs.Judging.{after-fit, after-refused}
 use Rattle.listing.specs.Scan.{Outcome, refused, matches, list, scanOf}
-use Rattle.listing.specs.Match.{agrees}
+use Rattle.listing.specs.Select.{test, Right}
 use Rattle.listing.proofs.Listing.{same-outcome}
 use borrow.Author.Needs.{needs}
 use Rattle.listing.proofs.scan.scan.Statement.{statement}
@@ -30,10 +28,11 @@ part-select-end : tie.Need-part-select-end
 part-select-end c = search needs
 
 select-requires : tie.Need-select-requires
+unfolding Right
 select-requires c κs =
     let a = c .before .before .before .before .before .before .before .before .args in
     let fit = sym (c .before .before .before .before .before .judge .ensures) ∙ c .before .before .before .judged .given .1 in
-    (fit-shaped (a .o) (a .image .now) _ fit, record { bytes = refl; inside = omega arith })
+    (fit-shaped (a .o) (a .image .now) _ fit, tt)
 
 enum-known-judged-2 : tie.Need-enum-known-judged-2
 enum-known-judged-2 c = search needs
@@ -45,7 +44,7 @@ same-length : tie.Need-same-length
 same-length c = search needs
 
 returns : tie.Need-returns
-unfolding scanOf agrees allTo
+unfolding scanOf test
 returns c =
     let a = c .before .before .before .before .before .before .before .before .before .before .before .args in
     let go : Shape → Outcome = λ s. list (matches s (a .image .now) (λ key. true)) (a .skip) (a .limit) (a .numbers .now) in

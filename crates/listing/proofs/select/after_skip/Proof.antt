@@ -6,29 +6,25 @@ use mathlib.Core.Path.{_≡_, refl, _∙_, ap}
 use native.Mathlib.Omega.{arith}
 use lib.ListN.{length}
 use Rattle.listing.specs.Scan.{passing}
-use Rattle.listing.specs.Select.{wantedAt, wantedBelow}
+use Rattle.listing.specs.Select.{test, wantedBelow}
 use Rattle.listing.proofs.Next.{next-below, next-count}
 use Rattle.listing.proofs.select.after_skip.Statement.{statement}
 use Rattle.listing.proofs.select.after_skip.Tie as tie
 
 abbrev Inv-loop : tie.InvT-loop
-Inv-loop image s offset bits pattern skip n₀ seen₀ n seen =
-    (n ≤ s .«slot_highwater») × (seen ≤ skip) × (length (wantedBelow s image offset bits pattern n) ≡ seen)
+Inv-loop image s wanted pattern skip n₀ seen₀ n seen =
+    (n ≤ s .«slot_highwater») × (seen ≤ skip) × (length (wantedBelow s image (test wanted pattern) n) ≡ seen)
 
 abbrev μ-loop : tie.MeasureT-loop
-μ-loop image s offset bits pattern skip n₀ seen₀ n seen = skip - seen
+μ-loop image s wanted pattern skip n₀ seen₀ n seen = skip - seen
 
 -- not all are found, so there is a next one
 found :
     (c : tie.After-next-wanted Inv-loop μ-loop)
     → c .next-wanted .result < c .before .before .before .before .before .args .s .«slot_highwater»
 found c =
-    let b = c .before .before .before .before .before in
-    let a = b .args in
-    let l = c .before .before .loop in
-    next-below (a .s .«slot_highwater») (wantedAt (a .s) (a .image .now) (a .offset) (a .bits) (a .pattern .now))
-    (l .n) (c .next-wanted .result) (c .next-wanted .ensures)
-    (omega (arith, l .inv .2, b .pre .1 .1, c .before .loop-test .taken))
+    next-below (c .next-wanted .ensures)
+    (omega (arith, c .before .before .loop .inv .2, c .before .before .before .before .before .pre .1 .1, c .before .loop-test .taken))
 
 loop-holds : tie.Need-loop-holds Inv-loop μ-loop
 unfolding passing
@@ -50,13 +46,7 @@ loop-less c = search needs
 
 loop-again : tie.Need-loop-again Inv-loop μ-loop
 loop-again c =
-    let a = c .before .before .before .before .before .args in
-    let l = c .before .before .loop in (
-      omega (arith, found c),
-      search needs,
-      next-count (a .s .«slot_highwater») (wantedAt (a .s) (a .image .now) (a .offset) (a .bits) (a .pattern .now)) (l .n) (c .next-wanted .result) (c .next-wanted .ensures) (found c)
-          ∙ ap (λ (n : ℕ). n + 1) (l .inv .2),
-    )
+    (omega (arith, found c), search needs, next-count (c .next-wanted .ensures) (found c) ∙ ap (λ (n : ℕ). n + 1) (c .before .before .loop .inv .2))
 
 returns : tie.Need-returns Inv-loop μ-loop
 returns c =

@@ -3,7 +3,6 @@
 use mathlib.Core.Path.{refl, sym, _∙_}
 use native.Mathlib.Omega.{arith}
 use Rattle.listing.specs.Scan.{matches}
-use Rattle.listing.specs.Match.{agrees}
 use Rattle.listing.specs.Select.{wantedAt}
 use Rattle.listing.proofs.Listing.{same-outcome, list-short, list-fits}
 use borrow.Author.Needs.{needs}
@@ -24,7 +23,7 @@ unfolding matches wantedAt
 returns c =
     let a = c .before .before .before .before .before .before .before .args in
     let e =
-    list-short (matches (a .s) (a .image .now) (agrees (a .offset) (a .bits) (a .pattern .now))) (a .skip) (a .limit) (a .numbers .now)
+    list-short _ (a .skip) (a .limit) (a .numbers .now)
     (c .before .before .before .count-wanted .result) (c .before .before .to-write .result)
     (c .before .before .before .count-wanted .ensures) (c .before .before .to-write .ensures) (c .before .if1 .taken) in
     same-outcome e (c .refused .ensures, refl)
@@ -34,13 +33,13 @@ unfolding matches wantedAt
 returns-2 c =
     let a = c .before .before .before .before .before .before .before .args in
     let e =
-    list-fits (matches (a .s) (a .image .now) (agrees (a .offset) (a .bits) (a .pattern .now))) (a .skip) (a .limit) (a .numbers .now)
+    list-fits _ (a .skip) (a .limit) (a .numbers .now)
     (c .before .before .before .count-wanted .result) 0 (c .before .before .before .count-wanted .ensures)
     (sym (c .if2 .taken) ∙ c .before .before .to-write .ensures) (omega arith) in
     same-outcome e (refl, refl)
 
 write-wanted-requires : tie.Need-write-wanted-requires
-write-wanted-requires c κs = search needs
+write-wanted-requires c κs = (search needs, (search needs, (search needs, search needs)))
 
 same-length : tie.Need-same-length
 same-length c = search needs
@@ -50,7 +49,7 @@ unfolding matches wantedAt
 returns-3 c =
     let a = c .before .before .before .before .before .before .before .before .before .before .before .args in
     let e =
-    list-fits (matches (a .s) (a .image .now) (agrees (a .offset) (a .bits) (a .pattern .now))) (a .skip) (a .limit) (a .numbers .now)
+    list-fits _ (a .skip) (a .limit) (a .numbers .now)
     (c .before .before .before .before .before .before .before .count-wanted .result) (c .before .before .before .before .before .before .to-write .result)
     (c .before .before .before .before .before .before .before .count-wanted .ensures) (c .before .before .before .before .before .before .to-write .ensures)
     (c .before .before .before .before .before .if1 .left) in

@@ -6,32 +6,27 @@ use mathlib.Core.Path.{_≡_, refl, sym, _∙_, ap, ap₂}
 use mathlib.Core.List.{List, _++_}
 use native.Mathlib.Omega.{arith}
 use lib.ListN.{length, drop, set, length-set, drop-of-length-le}
-use Rattle.listing.specs.Scan.{passing}
-use Rattle.listing.specs.Select.{wantedAt, wantedBelow}
+use Rattle.listing.specs.Select.{test, wantedBelow}
 use Rattle.listing.proofs.Next.{next-below, next-found, next-count}
 use Rattle.listing.proofs.Filling.{write-one, written-all}
 use Rattle.listing.proofs.select.write_wanted.Statement.{statement}
 use Rattle.listing.proofs.select.write_wanted.Tie as tie
 
 abbrev Inv-loop : tie.InvT-loop
-Inv-loop image s offset bits pattern skip count numbers₀ n₀ written₀ numbers n written =
-    (n ≤ s .«slot_highwater») × (written ≤ count) × (length (wantedBelow s image offset bits pattern n) ≡ skip + written)
-    × (length numbers ≡ length numbers₀) × (numbers ≡ drop skip (wantedBelow s image offset bits pattern n) ++ drop written numbers₀)
+Inv-loop image s wanted pattern skip count numbers₀ n₀ written₀ numbers n written =
+    (n ≤ s .«slot_highwater») × (written ≤ count) × (length (wantedBelow s image (test wanted pattern) n) ≡ skip + written)
+    × (length numbers ≡ length numbers₀) × (numbers ≡ drop skip (wantedBelow s image (test wanted pattern) n) ++ drop written numbers₀)
 
 abbrev μ-loop : tie.MeasureT-loop
-μ-loop image s offset bits pattern skip count numbers₀ n₀ written₀ numbers n written = count - written
+μ-loop image s wanted pattern skip count numbers₀ n₀ written₀ numbers n written = count - written
 
 -- not all are found, so there is a next one
 found :
     (c : tie.After-next-wanted Inv-loop μ-loop)
     → c .next-wanted .result < c .before .before .before .before .before .before .before .args .s .«slot_highwater»
 found c =
-    let b = c .before .before .before .before .before .before .before in
-    let a = b .args in
-    let l = c .before .before .loop in
-    next-below (a .s .«slot_highwater») (wantedAt (a .s) (a .image .now) (a .offset) (a .bits) (a .pattern .now))
-    (l .n) (c .next-wanted .result) (c .next-wanted .ensures)
-    (omega (arith, l .inv .2, b .pre .1 .1 .0, c .before .loop-test .taken))
+    next-below (c .next-wanted .ensures)
+    (omega (arith, c .before .before .loop .inv .2, c .before .before .before .before .before .before .before .pre .1 .1 .0, c .before .loop-test .taken))
 
 after-skip-requires : tie.Need-after-skip-requires Inv-loop μ-loop
 after-skip-requires c κs = search needs
@@ -39,13 +34,12 @@ after-skip-requires c κs = search needs
 loop-holds : tie.Need-loop-holds Inv-loop μ-loop
 loop-holds c =
     let a = c .before .before .before .before .args in
-    let r = c .after-skip .ensures in
-    let first = wantedBelow (a .s) (a .image .now) (a .offset) (a .bits) (a .pattern .now) (c .after-skip .result) in (
+    let r = c .after-skip .ensures in (
       r .0,
       search needs,
       omega (arith, r .1),
       refl,
-      ap (λ (xs : List ℕ). xs ++ a .numbers .now) (sym (drop-of-length-le first {i = a .skip} (omega (arith, r .1)))),
+      ap (λ (xs : List ℕ). xs ++ a .numbers .now) (sym (drop-of-length-le _ {i = a .skip} (omega (arith, r .1)))),
     )
 
 next-wanted-requires : tie.Need-next-wanted-requires Inv-loop μ-loop
@@ -76,18 +70,16 @@ loop-again c =
     let b = c .before .before .before .before .before .before .before in
     let a = b .args in
     let l = c .before .before .loop in
-    let p = wantedAt (a .s) (a .image .now) (a .offset) (a .bits) (a .pattern .now) in
     let r = c .next-wanted .result in
-    let grown = next-count (a .s .«slot_highwater») p (l .n) r (c .next-wanted .ensures) (found c) in
     let room : l .written < length (a .numbers .now) = omega (arith, b .pre .1 .1 .1, c .before .loop-test .taken) in (
       omega (arith, found c),
       search needs,
-      omega (arith, grown, l .inv .2),
+      omega (arith, next-count (c .next-wanted .ensures) (found c), l .inv .2),
       length-set (l .numbers) (l .written) r ∙ l .inv .3,
       ap (λ (ns : List ℕ). set ns (l .written) r) (l .inv .4)
-          ∙ write-one (passing (l .n) p) (a .skip) (l .written) r (a .numbers .now) (l .inv .2) room
+          ∙ write-one _ (a .skip) (l .written) r (a .numbers .now) (l .inv .2) room
           ∙ ap (λ (xs : List ℕ). drop (a .skip) xs ++ drop (l .written + 1) (a .numbers .now))
-          (sym (next-found (a .s .«slot_highwater») p (l .n) r (c .next-wanted .ensures) (found c))),
+          (sym (next-found (c .next-wanted .ensures) (found c))),
     )
 
 same-length : tie.Need-same-length Inv-loop μ-loop
@@ -98,10 +90,8 @@ returns c =
     let a = c .before .before .before .before .before .before .args in
     let l = c .before .loop in
     let all : l .written ≡ a .count = omega arith in
-    let p = wantedAt (a .s) (a .image .now) (a .offset) (a .bits) (a .pattern .now) in
-    let size : length (passing (l .n) p) ≡ a .skip + a .count = omega (arith, l .inv .2, all) in
     l .inv .4
-    ∙ ap₂ _++_ (written-all p (l .n) (a .s .«slot_highwater») (a .skip) (a .count) (l .inv .0) size)
+    ∙ ap₂ _++_ (written-all _ (l .n) (a .s .«slot_highwater») (a .skip) (a .count) (l .inv .0) (l .inv .2 ∙ ap (λ (n : ℕ). a .skip + n) all))
     (ap (λ (n : ℕ). drop n (a .numbers .now)) all)
 
 pub write-wanted-spec : {M : Type 1} → statement M

@@ -1,17 +1,16 @@
--- `listing::select::wanted` meets its contract.
+-- `listing::select::wanted_at` meets its contract.
 -- Assumes nothing.
 use Prim.Native.Nat.{_<_}
 use mathlib.Core.Path.{refl, sym, _∙_, ap}
 use borrow.Author.Tests.{eq-eqb, ne-eqb}
 use native.Mathlib.Omega.{arith}
 use lib.ListN.{length}
-use Rattle.listing.specs.Match.{agrees}
-use Rattle.listing.specs.Select.{wantedAt}
+use Rattle.listing.specs.Select.{test, wantedAt}
 use Rattle.image.specs.Table.{metaOf}
 use Rattle.image.proofs.Places.{key-length}
 use borrow.Author.Needs.{needs}
-use Rattle.listing.proofs.select.wanted.Statement.{statement}
-use Rattle.listing.proofs.select.wanted.Tie as tie
+use Rattle.listing.proofs.select.wanted_at.Statement.{statement}
+use Rattle.listing.proofs.select.wanted_at.Tie as tie
 
 meta-at-requires : tie.Need-meta-at-requires
 meta-at-requires c κs = search needs
@@ -25,22 +24,20 @@ returns c =
 key-part-requires : tie.Need-key-part-requires
 key-part-requires c κs = search needs
 
-agrees-at-requires : tie.Need-agrees-at-requires
-agrees-at-requires c κs =
+passes-requires : tie.Need-passes-requires
+passes-requires c κs =
     let b = c .before .before .before .before .before in
     let a = b .args in
-    let n : a .n < a .s .«slot_capacity» = omega (arith, b .pre .0 .highwater, b .pre .1 .1) in (
-      b .pre .1 .0 .bytes,
-      omega (arith, b .pre .1 .0 .inside, key-length (a .s) (a .image .now) (b .pre .0) (a .n) n, ap length (c .key-part .ensures)),
-    )
+    let n : a .n < a .s .«slot_capacity» = omega (arith, b .pre .0 .highwater, b .pre .1 .1) in
+    rw (ap length (c .key-part .ensures) ∙ key-length (a .s) (a .image .now) (b .pre .0) (a .n) n) (b .pre .1 .0)
 
 returns-2 : tie.Need-returns-2
 unfolding wantedAt
 returns-2 c =
     let a = c .before .before .before .before .before .before .args in
     rw (eq-eqb (metaOf (a .s) (a .image .now) (a .n)) 1 (sym (c .before .before .before .meta-at .ensures) ∙ c .before .before .if1 .left))
-    (c .agrees-at .ensures ∙ ap (agrees (a .offset) (a .bits) (a .pattern .now)) (c .before .key-part .ensures))
+    (c .passes .ensures ∙ ap (test (a .wanted) (a .pattern .now)) (c .before .key-part .ensures))
 
-pub wanted-spec : {M : Type 1} → statement M
-wanted-spec =
-    tie.close (tie.spec meta-at-requires returns key-part-requires agrees-at-requires returns-2)
+pub wanted-at-spec : {M : Type 1} → statement M
+wanted-at-spec =
+    tie.close (tie.spec meta-at-requires returns key-part-requires passes-requires returns-2)
