@@ -2,7 +2,7 @@
 -- Assumes nothing.
 use Prim.Native.Nat.{ℕ, _+_, _*_, _-_, _%_, _≤_, _<_}
 use mathlib.Core.Path.{_≡_, refl, ap, _∙_}
-use mathlib.Core.Bool.{true, false}
+use mathlib.Core.Bool.{Bool, true, false, cond, _&&_}
 use mathlib.Core.List.{List}
 use native.Mathlib.Omega.{arith}
 use borrow.Author.Tests.{eq-eqb, ne-eqb, lt-ltb, le-ltb}
@@ -16,53 +16,62 @@ use Rattle.header.specs.Shaped.{Shaped}
 use Rattle.image.specs.Table.{tableOf}
 use Rattle.image.specs.Lookup.{probeOf}
 use Rattle.slots.specs.Slots.{rewritten, removed, rebuilt, counted}
-use Rattle.batch.specs.Batch.{recordAt, metaIn, keyIn, keyAt, decides}
-use Rattle.applying.specs.Apply.{onLive, acted, withCounters, tidied, recounted, settled}
+use Rattle.batch.specs.Batch.{recordAt, metaIn, keyIn, recordKey, decides}
+use Rattle.header.specs.Counters.{withCounters}
+use Rattle.applying.specs.Apply.{onLive, acted, tidied, recounted, settled}
 
 module _ (s : Shape) (image : List ℕ) where
   module _ (r : List ℕ) (n examined : ℕ) where
     -- a put and a delete on a live key
-    pub put-live : metaIn r ≡ 1 → rewritten s image n r ≡ onLive s image r (found n examined)
+    pub put-live : metaIn r ≡ 1 → rewritten (s .layout) image n r ≡ onLive s image r (found n examined)
     put-live e = rw (eq-eqb (metaIn r) 1 e)
 
     pub delete-live :
-        (metaIn r ≡ 1 → ⊥) → (b : ℕ) → b ≡ (fnv1a64 (keyIn s r) % s .«bucket_count» + (examined - 1)) % s .«bucket_count»
-        → removed s image n b ≡ onLive s image r (found n examined)
+        (metaIn r ≡ 1 → ⊥) → (b : ℕ) → b ≡ (fnv1a64 (keyIn (s .layout) r) % s .layout .«bucket_count» + (examined - 1)) % s .layout .«bucket_count»
+        → removed (s .layout) image n b ≡ onLive s image r (found n examined)
     delete-live d b e = rw (ne-eqb (metaIn r) 1 d, e)
 
   -- what is known of a slot that the probe found
   pub found-facts :
       Shaped s image → (key : List ℕ) (n examined : ℕ) → probeOf s image key ≡ found n examined
-      → (n < s .«slot_capacity») × (0 < examined) × (examined ≤ s .«bucket_count»)
+      → (n < s .layout .«slot_capacity») × (0 < examined) × (examined ≤ s .layout .«bucket_count»)
   unfolding probeOf tableOf
   found-facts fit key n examined e =
       let run = found-run (tableOf s image) key n examined e in
       (omega (arith, run .last .below, fit .highwater), run .some, run .bounded)
 
-  module _ (batch : List ℕ) (i : ℕ) where
-    -- a record that decides, and one that does not
-    pub acts :
-        decides s batch i ≡ true → (r : List ℕ) → r ≡ recordAt s batch i
-        → onLive s image r (probeOf s image (keyIn s r)) ≡ acted s batch i image
-    unfolding acted keyAt
-    acts e r q = rw (e, q)
+  module _ (new : ℕ → Bool) (batch : List ℕ) (i : ℕ) where
+    -- a record whose turn comes later, one that decides, and one that does not
+    pub acts-later : new i ≡ true → image ≡ acted s new batch i image
+    unfolding acted
+    acts-later e = rw e (never _ (decides (s .layout) batch i))
+      where
+        never : (x : List ℕ) (b : Bool) → image ≡ cond (b && false) x image
+        never x true = refl
+        never x false = refl
 
-    pub acts-not : decides s batch i ≡ false → image ≡ acted s batch i image
+    pub acts :
+        new i ≡ false → decides (s .layout) batch i ≡ true → (r : List ℕ) → r ≡ recordAt (s .layout) batch i
+        → onLive s image r (probeOf s image (keyIn (s .layout) r)) ≡ acted s new batch i image
+    unfolding acted recordKey
+    acts n e r q = rw (e, n, q)
+
+    pub acts-not : decides (s .layout) batch i ≡ false → image ≡ acted s new batch i image
     unfolding acted
     acts-not e = rw e
 
   -- more than a quarter of the buckets are TOMBSTONE, or not
-  pub tidied-rebuilt : s .«bucket_count» < 4 * tombstoneCount (tableOf s image) → rebuilt s image ≡ tidied s image
+  pub tidied-rebuilt : s .layout .«bucket_count» < 4 * tombstoneCount (tableOf s image) → rebuilt s image ≡ tidied s image
   unfolding tidied
-  tidied-rebuilt l = rw (lt-ltb (s .«bucket_count») (4 * tombstoneCount (tableOf s image)) l)
+  tidied-rebuilt l = rw (lt-ltb (s .layout .«bucket_count») (4 * tombstoneCount (tableOf s image)) l)
 
-  pub tidied-left : 4 * tombstoneCount (tableOf s image) ≤ s .«bucket_count» → image ≡ tidied s image
+  pub tidied-left : 4 * tombstoneCount (tableOf s image) ≤ s .layout .«bucket_count» → image ≡ tidied s image
   unfolding tidied
-  tidied-left l = rw (le-ltb (s .«bucket_count») (4 * tombstoneCount (tableOf s image)) l)
+  tidied-left l = rw (le-ltb (s .layout .«bucket_count») (4 * tombstoneCount (tableOf s image)) l)
 
-  pub tombstones-bound : tombstoneCount (tableOf s image) ≤ s .«bucket_count»
+  pub tombstones-bound : tombstoneCount (tableOf s image) ≤ s .layout .«bucket_count»
   unfolding tombstoneCount tableOf
-  tombstones-bound = count-le (s .«bucket_count») _
+  tombstones-bound = count-le (s .layout .«bucket_count») _
 
   -- the counters are published of the table as it is left
   pub settled-by :

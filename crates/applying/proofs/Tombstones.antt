@@ -27,6 +27,6 @@ by-word h plus1 = go (either (eqb plus1 0)) (either (eqb plus1 18446744073709551
 
 pub is-tombstone :
     (s : Shape) (image : List ℕ) (b : ℕ)
-    → eqb (word (part image (bucketAt s b + 8) 8)) 18446744073709551615 ≡ isTombstone (bucketOf s image b)
+    → eqb (word (part image (bucketAt (s .layout) b + 8) 8)) 18446744073709551615 ≡ isTombstone (bucketOf (s .layout) image b)
 unfolding bucketOf
 is-tombstone s image b = sym (by-word _ _)

@@ -3,13 +3,11 @@ ghost use mathlib.Core.Path.{_≡_};
 ghost use Rattle.probing.specs.Table.{liveCount, tombstoneCount};
 ghost use Rattle.header.specs.Shaped.{Shaped};
 ghost use Rattle.image.specs.Table.{tableOf};
-use batch::news::one_if;
+use batch::new_keys::one_if;
 use header::shape::Shape;
-use image::probe::meta_at;
-use image::probe::slot_plus1_at;
-
-// The slot_plus1 of a TOMBSTONE.
-const ALL_ONES: u64 = 18446744073709551615;
+use image::table::TOMBSTONE;
+use image::table::meta_of;
+use image::table::slot_plus1_of;
 
 // How many slots are live.
 pub fn count_live(image: &[u8], s: Shape) -> usize
@@ -20,7 +18,7 @@ pub fn count_live(image: &[u8], s: Shape) -> usize
     let mut sum: usize = 0;
     let mut n = 0;
     while n < highwater {
-        sum += one_if(meta_at(image, s, n) == 1);
+        sum += one_if(meta_of(image, s.layout, n) == 1);
         n += 1;
     }
     sum
@@ -31,11 +29,11 @@ pub fn count_tombstones(image: &[u8], s: Shape) -> usize
     requires { ⌜ Shaped s (now image) ⌝ }
     ensures { λ r. ⌜ r ≡ tombstoneCount (tableOf s (now (image .entry))) ⌝ }
 {
-    let count = s.bucket_count;
+    let count = s.layout.bucket_count;
     let mut sum: usize = 0;
     let mut b = 0;
     while b < count {
-        sum += one_if(slot_plus1_at(image, s, b) == ALL_ONES);
+        sum += one_if(slot_plus1_of(image, s.layout, b) == TOMBSTONE);
         b += 1;
     }
     sum

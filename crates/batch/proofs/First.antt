@@ -5,7 +5,7 @@ use mathlib.Core.Path.{_≡_, refl, ap}
 use mathlib.Core.Bool.{Bool, true, false, cond}
 use native.Mathlib.Omega.{arith}
 use Rattle.probing.proofs.Keys.{not-both}
-use Rattle.batch.specs.News.{firstTo}
+use Rattle.batch.specs.NewKeys.{firstTo}
 
 -- it is the one that passes where all before it fail
 pub first-here : (n : ℕ) (p : ℕ → Bool) (i : ℕ) → i < n → ((j : ℕ) → j < i → p j ≡ false) → p i ≡ true → firstTo n p ≡ i
@@ -29,16 +29,15 @@ first-same zero p q e = refl
 first-same (suc n) p q e =
     rw (e 0 (omega arith), first-same n (λ j. p (suc j)) (λ j. q (suc j)) (λ j h. e (suc j) (omega arith)))
 
--- where one passes, the first is below the bound
-pub first-below : (n : ℕ) (p : ℕ → Bool) (i : ℕ) → i < n → p i ≡ true → firstTo n p < n
+-- the first number that passes is one that passes, where there is one
+pub first-passes : (n : ℕ) (p : ℕ → Bool) (i : ℕ) → i < n → p i ≡ true → (firstTo n p < n) × (p (firstTo n p) ≡ true)
 unfolding firstTo
-first-below zero p i l e = absurd (omega arith)
-first-below (suc n) p i l e = go (p 0) i l refl e (first-below n (λ j. p (suc j)))
+first-passes zero p i l e = absurd (omega arith)
+first-passes (suc n) p i l e = go (λ i. first-passes n (λ j. p (suc j)) i) (p zero) refl i l e
   where
-    go :
-        (b : Bool) (i : ℕ) → i < suc n → p 0 ≡ b → p i ≡ true
-        → ((i : ℕ) → i < n → p (suc i) ≡ true → firstTo n (λ j. p (suc j)) < n)
-        → cond b zero (suc (firstTo n (λ j. p (suc j)))) < suc n
-    go true i l q e rest = omega arith
-    go false zero l q e rest = absurd (not-both e q)
-    go false (suc i) l q e rest = let h = rest i (omega arith) e in omega arith
+    go : ((i : ℕ) → i < n → p (suc i) ≡ true → (firstTo n (λ j. p (suc j)) < n) × (p (suc (firstTo n (λ j. p (suc j)))) ≡ true))
+        → (b : Bool) → p zero ≡ b → (i : ℕ) → i < suc n → p i ≡ true
+        → (cond b zero (suc (firstTo n (λ j. p (suc j)))) < suc n) × (p (cond b zero (suc (firstTo n (λ j. p (suc j))))) ≡ true)
+    go on true z i l e = (omega arith, z)
+    go on false z zero l e = absurd (not-both e z)
+    go on false z (suc i) l e = let r = on i (omega arith) e in (omega (arith, r .0), r .1)

@@ -2,7 +2,7 @@ pub mod Records
 pub mod Every
 pub mod First
 pub mod Filled
-pub mod Newness
 pub mod Marks
-pub mod Ranks
-pub mod NewAt
+pub mod Deciding
+pub mod Counts
+pub mod NewRanks

@@ -9,59 +9,59 @@ use lib.Dec.{eqb, ltb}
 use lib.ListN.{length}
 use Rattle.numbers.specs.Bytes.{part, word, same, allZero}
 use Rattle.probing.specs.Counting.{allTo}
-use Rattle.header.specs.declared.shape.Shape.{Shape}
+use Rattle.header.specs.declared.shape.Layout.{Layout}
 use Rattle.header.specs.Sizes.{align8, slotSize}
 
 -- a record is laid out as a slot: its size is that of meta, key, revision and index, with the padding
-abbrev pub Laid : Shape → Type 0
-Laid s = s .«slot_size» ≡ slotSize (s .«key_size») (s .«index_size»)
+abbrev pub SlotSized : Layout → Type 0
+SlotSized l = l .«slot_size» ≡ slotSize (l .«key_size») (l .«index_size»)
 
 -- "batch 0 to 64 records"
 abbrev pub most-records : ℕ
 most-records = 64
 
 -- how many records a batch has, and record i
-unfoldable pub recordCount : Shape → List ℕ → ℕ
-recordCount s batch = length batch / s .«slot_size»
+unfoldable pub recordCount : Layout → List ℕ → ℕ
+recordCount l batch = length batch / l .«slot_size»
 
-unfoldable pub recordAt : Shape → List ℕ → ℕ → List ℕ
-recordAt s batch i = part batch (i * s .«slot_size») (s .«slot_size»)
+unfoldable pub recordAt : Layout → List ℕ → ℕ → List ℕ
+recordAt l batch i = part batch (i * l .«slot_size») (l .«slot_size»)
 
 -- the parts of a record
 unfoldable pub metaIn : List ℕ → ℕ
 metaIn r = word (part r 0 8)
 
-unfoldable pub keyIn : Shape → List ℕ → List ℕ
-keyIn s r = part r 8 (s .«key_size»)
+unfoldable pub keyIn : Layout → List ℕ → List ℕ
+keyIn l r = part r 8 (l .«key_size»)
 
-unfoldable pub keyPadding : Shape → List ℕ → List ℕ
-keyPadding s r = part r (8 + s .«key_size») (align8 (s .«key_size») - s .«key_size»)
+unfoldable pub keyPadding : Layout → List ℕ → List ℕ
+keyPadding l r = part r (8 + l .«key_size») (align8 (l .«key_size») - l .«key_size»)
 
-unfoldable pub revisionAndIndex : Shape → List ℕ → List ℕ
-revisionAndIndex s r = part r (8 + align8 (s .«key_size»)) (8 + s .«index_size»)
+unfoldable pub revisionAndIndex : Layout → List ℕ → List ℕ
+revisionAndIndex l r = part r (8 + align8 (l .«key_size»)) (8 + l .«index_size»)
 
-unfoldable pub indexPadding : Shape → List ℕ → List ℕ
-indexPadding s r = part r (16 + align8 (s .«key_size») + s .«index_size») (align8 (s .«index_size») - s .«index_size»)
+unfoldable pub indexPadding : Layout → List ℕ → List ℕ
+indexPadding l r = part r (16 + align8 (l .«key_size») + l .«index_size») (align8 (l .«index_size») - l .«index_size»)
 
 -- meta neither 0 nor 1, a byte of padding that is not zero, or a delete whose revision or index is not zero
-unfoldable pub malformed : Shape → List ℕ → Bool
-malformed s r =
-    ltb 1 (metaIn r) || not (allZero (keyPadding s r)) || not (allZero (indexPadding s r))
-    || (eqb (metaIn r) 0 && not (allZero (revisionAndIndex s r)))
+unfoldable pub malformed : Layout → List ℕ → Bool
+malformed l r =
+    ltb 1 (metaIn r) || not (allZero (keyPadding l r)) || not (allZero (indexPadding l r))
+    || (eqb (metaIn r) 0 && not (allZero (revisionAndIndex l r)))
 
-unfoldable pub someMalformed : Shape → List ℕ → Bool
-someMalformed s batch = not (allTo (recordCount s batch) (λ i. not (malformed s (recordAt s batch i))))
+unfoldable pub someMalformed : Layout → List ℕ → Bool
+someMalformed l batch = not (allTo (recordCount l batch) (λ i. not (malformed l (recordAt l batch i))))
 
 -- "batch length no multiple of slot_size, over 64 records, or a malformed record"
-unfoldable pub batchWrong : Shape → List ℕ → Bool
-batchWrong s batch =
-    not (eqb (length batch % s .«slot_size») 0) || ltb most-records (recordCount s batch)
-    || someMalformed s batch
+unfoldable pub batchWrong : Layout → List ℕ → Bool
+batchWrong l batch =
+    not (eqb (length batch % l .«slot_size») 0) || ltb most-records (recordCount l batch)
+    || someMalformed l batch
 
 -- the key of record i
-unfoldable pub keyAt : Shape → List ℕ → ℕ → List ℕ
-keyAt s batch i = keyIn s (recordAt s batch i)
+unfoldable pub recordKey : Layout → List ℕ → ℕ → List ℕ
+recordKey l batch i = keyIn l (recordAt l batch i)
 
 -- "Only the last record for a key counts": no later record has the key of record i
-unfoldable pub decides : Shape → List ℕ → ℕ → Bool
-decides s batch i = allTo (recordCount s batch) (λ j. not (ltb i j && same (keyAt s batch j) (keyAt s batch i)))
+unfoldable pub decides : Layout → List ℕ → ℕ → Bool
+decides l batch i = allTo (recordCount l batch) (λ j. not (ltb i j && same (recordKey l batch j) (recordKey l batch i)))

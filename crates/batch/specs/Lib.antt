@@ -1,2 +1,3 @@
 pub mod Batch
-pub mod News
+pub mod NewKeys
+pub mod Marks

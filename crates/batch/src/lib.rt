@@ -1,3 +1,3 @@
-// A batch: its records, and its new keys.
+// A batch: its records, and the order of its new keys.
 pub mod batch;
-pub mod news;
+pub mod new_keys;

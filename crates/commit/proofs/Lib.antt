@@ -1,2 +1,4 @@
 pub mod Behind
-pub mod Groups
+pub mod TestGroups
+pub mod Newness
+pub mod Planning

@@ -12,29 +12,30 @@ use Rattle.header.specs.Answer.{needs-rebuild, full, out-of-order, invalid-inpu
 use Rattle.header.specs.FirstOf.{firstOf}
 use Rattle.header.specs.HeaderTest.{shapeOf}
 use Rattle.image.specs.Table.{keyOf}
+use Rattle.image.specs.Lookup.{isLive}
 use Rattle.image.specs.Check.{passes}
 use Rattle.writing.specs.Write.{Written, unless}
 use Rattle.writing.specs.State.{userTests}
-use Rattle.batch.specs.Batch.{recordCount, keyAt, batchWrong}
-use Rattle.batch.specs.News.{isNew, newCount}
+use Rattle.batch.specs.Batch.{recordCount, recordKey, batchWrong}
+use Rattle.batch.specs.NewKeys.{isNew, newCount}
 use Rattle.applying.specs.Apply.{committed}
 
 -- "Ordered, highwater above 0, and some new key below the key of slot highwater - 1, live or deleted"
 unfoldable pub fallsBehind : Shape → List ℕ → List ℕ → Bool
 fallsBehind s image batch =
-    s .ordered && ltb 0 (s .«slot_highwater»)
+    s .layout .ordered && ltb 0 (s .«slot_highwater»)
     && not
-    (allTo (recordCount s batch)
-    (λ i. not (isNew s image batch i && below (keyAt s batch i) (keyOf s image (s .«slot_highwater» - 1)))))
+    (allTo (recordCount (s .layout) batch)
+    (λ i. not (isNew (s .layout) (isLive s image) batch i && below (recordKey (s .layout) batch i) (keyOf (s .layout) image (s .«slot_highwater» - 1)))))
 
 -- "batch length no multiple of slot_size, over 64 records, or a malformed record: 7. Full check fails: 1."
 unfoldable pub soundTests : Shape → List ℕ → List ℕ → List (Bool × ℕ)
-soundTests s image batch = (batchWrong s batch, invalid-input) ∷ (not (passes s image), needs-rebuild) ∷ []
+soundTests s image batch = (batchWrong (s .layout) batch, invalid-input) ∷ (not (passes s image), needs-rebuild) ∷ []
 
 -- "New keys beyond capacity - highwater: 5. Ordered, ...: 6."
 unfoldable pub roomTests : Shape → List ℕ → List ℕ → List (Bool × ℕ)
 roomTests s image batch =
-    (ltb (s .«slot_capacity» - s .«slot_highwater») (newCount s image batch), full)
+    (ltb (s .layout .«slot_capacity» - s .«slot_highwater») (newCount (s .layout) (isLive s image) batch), full)
     ∷ (fallsBehind s image batch, out-of-order)
     ∷ []
 

@@ -7,37 +7,26 @@ ghost use Rattle.header.specs.Shaped.{Shaped};
 ghost use Rattle.writing.specs.Write.{Leaves, unless};
 ghost use Rattle.applying.specs.Apply.{committed};
 ghost use Rattle.commit.specs.Commit.{furtherTests, commitOf};
-use crate::further::room_test;
-use crate::further::sound_test;
+use crate::plan::plan_commit;
 use applying::apply::apply;
-use batch::batch::record_count;
-use batch::news::find_news;
-use batch::news::mark_news;
-use batch::news::news_below;
 use header::answer::DONE;
 use header::options::Options;
 use header::shape::Judged;
 use header::shape::Shape;
 use writing::judge::judge_change;
 
-// Makes the further tests and, where they pass, commits the batch. Any answer but 0 leaves every byte alone.
+// Plans and, where nothing refuses the batch, acts. Any answer but 0 leaves every byte alone.
 fn commit_in(image: &mut [u8], s: Shape, batch: &[u8]) -> u32
     requires { ⌜ Shaped s (now image) ⌝ }
     requires { ⌜ value (now image) generation + 2 < 2 ^ 64 ⌝ }
     ensures { λ r. ⌜ Leaves (unless (firstOf (furtherTests s (now (image .entry)) (now (batch .entry)))) (now (image .entry)) (committed s (now (image .entry)) (now (batch .entry)))) r (now (image .exit)) ⌝ }
 {
-    let sound = sound_test(image, s, batch);
-    if sound != DONE {
-        return sound;
+    let planned = plan_commit(image, s, batch);
+    if planned.answer != DONE {
+        return planned.answer;
     }
-    let news = find_news(image, s, batch);
-    let room = room_test(image, s, batch, &news);
-    if room != DONE {
-        return room;
-    }
-    let marks = mark_news(batch, s, &news);
-    let count = news_below(&news, record_count(batch, s));
-    apply(image, s, batch, &marks, count);
+    let marks = planned.marks;
+    apply(image, s, batch, &marks, planned.count);
     DONE
 }
 

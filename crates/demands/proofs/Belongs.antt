@@ -39,7 +39,7 @@ module _ (o : Options) (image key : List ℕ) (z : headerTest o image ≡ 0) whe
   Right l = Shows o image (l .slot) key (record { revision = l .revision; index = indexBy s image l })
 
   -- a slot that the probe finds has the key
-  found-key : (n count : ℕ) → probeOf s image key ≡ found n count → keyOf s image n ≡ key
+  found-key : (n count : ℕ) → probeOf s image key ≡ found n count → keyOf (s .layout) image n ≡ key
   unfolding probeOf tableOf
   found-key n count e = found-run (tableOf s image) key n count e .last .keyed
 
@@ -51,7 +51,7 @@ module _ (o : Options) (image key : List ℕ) (z : headerTest o image ≡ 0) whe
 
   looked-right : lookupIn s image key .answer ≡ done → Right (lookupIn s image key)
   unfolding lookupIn
-  looked-right a = go (eqb (length key) (s .«key_size»)) (probeOf s image key) refl a
+  looked-right a = go (eqb (length key) (s .layout .«key_size»)) (probeOf s image key) refl a
     where
       go : (equal : Bool) (p : Probed) → probeOf s image key ≡ p → cond equal (lookupBy s image p) (nothing invalid-input) .answer ≡ done
           → Right (cond equal (lookupBy s image p) (nothing invalid-input))

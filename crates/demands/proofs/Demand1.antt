@@ -13,7 +13,7 @@ use Rattle.header.specs.Answer.{done, busy, full, out-of-order, invalid-input, 
 use Rattle.header.specs.Fields as F
 use Rattle.header.specs.FirstOf.{firstOf}
 use Rattle.header.specs.State.{CLEAN, INVALIDATED, DIRTY}
-use Rattle.header.specs.HeaderTest.{test1, headerTests, headerTest, afterTest, shapeOf}
+use Rattle.header.specs.HeaderTest.{test1, headerTests, headerTest, afterTest, layoutOf, shapeOf}
 use Rattle.header.proofs.Said.{agreed}
 use Rattle.header.proofs.Stages.{passes}
 use Rattle.image.specs.Lookup.{nothing, lookupOf}
@@ -110,7 +110,7 @@ module _ (flags : ℕ) (bytes : List ℕ) where
 -- "A key of the wrong length is refused, never cut or padded."
 wrong-length : (o : Options) (image key : List ℕ) → headerTest o image ≡ done → (length key ≡ o .«key_size» → ⊥)
     → lookupOf o image key ≡ nothing invalid-input
-unfolding lookupOf shapeOf
+unfolding lookupOf shapeOf layoutOf
 wrong-length o image key z other =
     rw z (sym (looked-other (shapeOf image) image key (λ e. other (e ∙ agreed o image (passes o image z .eighth) .key))))
 

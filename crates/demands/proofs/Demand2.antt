@@ -101,12 +101,12 @@ module _ {o : Options} {image : List ℕ} {m : Map} {fields : UserFields} (h : H
     fit = judged-fit o′ image z
 
     -- a key of the map has the right length: it is a slot's
-    key-sized : (key : List ℕ) (e : Entry) → m key ≡ some e → length key ≡ shapeOf image .«key_size»
+    key-sized : (key : List ℕ) (e : Entry) → m key ≡ some e → length key ≡ shapeOf image .layout .«key_size»
     key-sized key e q =
         let s = shapeOf image in
         let has = some-iff s image (whole .sound) key e .0 (mapped key ∙ q) in
         let shaped = fit-shaped o′ image s fit in
-        ap length (sym (has .1 .key)) ∙ key-length s image shaped (has .0) (omega (arith, has .1 .below, shaped .highwater))
+        ap length (sym (has .1 .key)) ∙ key-length (s .layout) image (shaped .laid) (has .0) (omega (arith, has .1 .below, shaped .highwater))
 
     -- a key of the map is looked up, and the slot that is then given shows it
     looked : (key : List ℕ) (e : Entry) → m key ≡ some e

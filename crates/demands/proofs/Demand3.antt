@@ -43,7 +43,7 @@ module _ (o : Options) (image : List ℕ) (passed : checkOf o image .answer ≡ 
   fit : judged o image ≡ Fit (shapeOf image)
   fit = judged-fit o image (whole .header)
 
-  size : shapeOf image .«key_size» ≡ o .«key_size»
+  size : shapeOf image .layout .«key_size» ≡ o .«key_size»
   size = fit-key-size o image (shapeOf image) fit
 
   -- lookup of a key of the right length reports what the probe rule counts
@@ -76,7 +76,7 @@ module _ (o : Options) (image : List ℕ) (passed : checkOf o image .answer ≡ 
       sized : (n : ℕ) → n < shapeOf image .«slot_highwater» → length (tableIn image .key n) ≡ o .«key_size»
       sized n below =
           let shaped = fit-shaped o image (shapeOf image) fit in
-          key-length (shapeOf image) image shaped n (omega (arith, shaped .highwater)) ∙ size
+          key-length (shapeOf image .layout) image (shaped .laid) n (omega (arith, shaped .highwater)) ∙ size
 
   -- the full check returns that sum
   returned : checkOf o image .probes ≡ sumOfLookups o image

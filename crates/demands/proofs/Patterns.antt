@@ -29,13 +29,13 @@ module _ (o : Options) (image : List ℕ) (z : headerTest o image ≡ 0) (offset
   taken-right e =
       let none : Bool = eqb bits 0 in
       let differs : Bool = not (eqb (length pattern) ((bits + 7) / 8)) in
-      let past : Bool = ltb (shapeOf image .«key_size») (offset + length pattern) in
+      let past : Bool = ltb (shapeOf image .layout .«key_size») (offset + length pattern) in
       let p = neither (none || differs) past e in
       let q = neither none differs (p .0) in
       record {
         some-bits = let other = eqb-false bits 0 (q .0) in omega arith;
         bytes = eqb-true (length pattern) ((bits + 7) / 8) (not-false _ (q .1));
-        inside = rw (same-key-size o image z) at (ltb-false (shapeOf image .«key_size») (offset + length pattern) (p .1));
+        inside = rw (same-key-size o image z) at (ltb-false (shapeOf image .layout .«key_size») (offset + length pattern) (p .1));
       }
 
   wrong-taken : (RightPattern o offset bits pattern → ⊥) → patternWrong (shapeOf image) offset bits pattern ≡ true

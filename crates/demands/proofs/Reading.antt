@@ -120,7 +120,7 @@ unfolding lookupOf lookupIn
 lookup-reads key =
     reads looked _
     (λ o image.
-    fair-cond looked (eqb (length key) (shapeOf image .«key_size»)) (lookup-fair (shapeOf image) image (probeOf (shapeOf image) image key))
+    fair-cond looked (eqb (length key) (shapeOf image .layout .«key_size»)) (lookup-fair (shapeOf image) image (probeOf (shapeOf image) image key))
     (fair-refused looked invalid-input refl))
 
 abbrev pub checked : Result Checked

@@ -18,7 +18,7 @@ use Rattle.header.specs.Answer.{needs-rebuild}
 use Rattle.header.specs.Fields as F
 use Rattle.header.specs.Fields.{fieldOf, bytesIn, value}
 use Rattle.header.specs.FirstOf.{firstOf}
-use Rattle.header.specs.HeaderTest.{test1, test2, test3, test4, test5, test6, test7, test8, test9, test10, test11, test12, headerTest, shapeOf}
+use Rattle.header.specs.HeaderTest.{test1, test2, test3, test4, test5, test6, test7, test8, test9, test10, test11, test12, headerTest, layoutOf, shapeOf}
 use Rattle.header.specs.Shaped.{Shaped}
 use Rattle.header.specs.Sizes.{bucketsOffset, totalSize}
 use Rattle.header.proofs.Fit.{judged-fit, fit-shaped}
@@ -58,9 +58,9 @@ pub shaped : (o : Options) (image : List ℕ) → headerTest o image ≡ 0 → S
 shaped o image z = fit-shaped o image (shapeOf image) (judged-fit o image z)
 
 pub total-shape : (o : Options) (image : List ℕ) → headerTest o image ≡ 0
-    → shapeOf image .«buckets_offset» + 16 * shapeOf image .«bucket_count» ≡ totalSize o
-unfolding shapeOf
-total-shape o image z = let p = passes o image z in ends o image (p .eighth) (p .ninth) (shaped o image z .offset)
+    → shapeOf image .layout .«buckets_offset» + 16 * shapeOf image .layout .«bucket_count» ≡ totalSize o
+unfolding shapeOf layoutOf
+total-shape o image z = let p = passes o image z in ends o image (p .eighth) (p .ninth) (shaped o image z .laid .offset)
 
 module _ (o : Options) (image image′ : List ℕ) (same : SameToTotal o image image′) where
   lengths : min (totalSize o) (length image′) ≡ min (totalSize o) (length image)
@@ -90,7 +90,7 @@ module _ (o : Options) (image image′ : List ℕ) (same : SameToTotal o image i
   same-value m = rw same-fields refl
 
   pub same-shape : shapeOf image′ ≡ shapeOf image
-  unfolding shapeOf value
+  unfolding shapeOf layoutOf value
   same-shape = rw same-fields refl
 
   same-crc : headerCrc image′ ≡ headerCrc image
@@ -151,15 +151,15 @@ module _ (o : Options) (image image′ : List ℕ) (same : SameToTotal o image i
     abbrev s : Shape
     s = shapeOf image
 
-    pub same-slots : (n : ℕ) → n < s .«slot_capacity» → SameSlot s image image′ n
+    pub same-slots : (n : ℕ) → n < s .layout .«slot_capacity» → SameSlot (s .layout) image image′ n
     same-slots n l =
         let fit = shaped o image z in
-        let end = slot-ends s image fit n l in
+        let end = slot-ends (s .layout) image (fit .laid) n l in
         let total = total-shape o image z in
-        same-slot s image image′ fit n (record { parts = λ a m from to. same-parts a m (omega arith) })
+        same-slot (s .layout) image image′ (fit .laid) n (record { parts = λ a m from to. same-parts a m (omega arith) })
 
-    pub same-buckets : (b : ℕ) → b < s .«bucket_count» → bucketOf s image′ b ≡ bucketOf s image b
+    pub same-buckets : (b : ℕ) → b < s .layout .«bucket_count» → bucketOf (s .layout) image′ b ≡ bucketOf (s .layout) image b
     unfolding bucketAt
     same-buckets b l =
         let total = total-shape o image z in
-        same-bucket s image image′ b (record { parts = λ a m from to. same-parts a m (omega arith) })
+        same-bucket (s .layout) image image′ b (record { parts = λ a m from to. same-parts a m (omega arith) })

@@ -41,20 +41,20 @@ module _ (o : Options) (image image′ : List ℕ) (same : SameToTotal o image i
   abbrev s : Shape
   s = shapeOf image
 
-  slots : (n : ℕ) → n < s .«slot_highwater» → SameSlot s image image′ n
+  slots : (n : ℕ) → n < s .«slot_highwater» → SameSlot (s .layout) image image′ n
   slots n l = same-slots o image image′ same z n (omega (arith, shaped o image z .highwater))
 
-  metas : (n : ℕ) → n < s .«slot_highwater» → metaOf s image′ n ≡ metaOf s image n
+  metas : (n : ℕ) → n < s .«slot_highwater» → metaOf (s .layout) image′ n ≡ metaOf (s .layout) image n
   metas n l = slots n l .meta
 
-  keys : (n : ℕ) → n < s .«slot_highwater» → keyOf s image′ n ≡ keyOf s image n
+  keys : (n : ℕ) → n < s .«slot_highwater» → keyOf (s .layout) image′ n ≡ keyOf (s .layout) image n
   keys n l = slots n l .key
 
-  buckets : (b : ℕ) → b < s .«bucket_count» → bucketOf s image′ b ≡ bucketOf s image b
+  buckets : (b : ℕ) → b < s .layout .«bucket_count» → bucketOf (s .layout) image′ b ≡ bucketOf (s .layout) image b
   buckets = same-buckets o image image′ same z
 
-  some-bucket : 0 < s .«bucket_count»
-  some-bucket = omega (arith, shaped o image z .room)
+  some-bucket : 0 < s .layout .«bucket_count»
+  some-bucket = omega (arith, shaped o image z .laid .room)
 
   -- the tables agree within their ends, and nothing else is looked at
   probe-in : (key : List ℕ) → probeOf s image′ key ≡ probeOf s image key
@@ -63,7 +63,7 @@ module _ (o : Options) (image image′ : List ℕ) (same : SameToTotal o image i
 
   passes-in : passes s image′ ≡ passes s image
   unfolding passes tableOf
-  passes-in = checks-agree (tableOf s image) _ _ _ buckets metas keys some-bucket (s .ordered) _ _ _
+  passes-in = checks-agree (tableOf s image) _ _ _ buckets metas keys some-bucket (s .layout .ordered) _ _ _
 
   check-in : checkIn s image′ ≡ checkIn s image
   unfolding checkIn tableOf
@@ -75,7 +75,7 @@ module _ (o : Options) (image image′ : List ℕ) (same : SameToTotal o image i
       same-passing (s .«slot_highwater») (λ n l. ap₂ (λ (x : ℕ) (k : List ℕ). eqb x 1 && wanted k) (metas n l) (keys n l))
 
   -- what holds of a found slot that reads the same, and of a probe that finds none, holds of the probe's end
-  at-end : (key : List ℕ) (P : Probed → Type 0) → ((n count : ℕ) → SameSlot s image image′ n → P (found n count))
+  at-end : (key : List ℕ) (P : Probed → Type 0) → ((n count : ℕ) → SameSlot (s .layout) image image′ n → P (found n count))
       → ((count : ℕ) → P (absent count)) → P broken → P (probeOf s image key)
   unfolding probeOf tableOf
   at-end key P f a b = go (probeOf s image key) refl
@@ -93,12 +93,12 @@ module _ (o : Options) (image image′ : List ℕ) (same : SameToTotal o image i
   map-in : (key : List ℕ) → mapOf s image′ key ≡ mapOf s image key
   unfolding mapOf
   map-in key =
-      rw (probe-in key) (at-end key (λ p. entryAt s image′ p ≡ entryAt s image p) (λ n count e. ap some (same-entry e)) (λ count. refl) refl)
+      rw (probe-in key) (at-end key (λ p. entryAt (s .layout) image′ p ≡ entryAt (s .layout) image p) (λ n count e. ap some (same-entry e)) (λ count. refl) refl)
 
   -- the index part of the slot that a lookup hands out
   index-in : (key : List ℕ) → indexBy s image′ (lookupIn s image key) ≡ indexBy s image (lookupIn s image key)
   unfolding lookupIn
-  index-in key = go (eqb (length key) (s .«key_size»))
+  index-in key = go (eqb (length key) (s .layout .«key_size»))
     where
       Same : Lookup → Type 0
       Same l = indexBy s image′ l ≡ indexBy s image l

@@ -32,7 +32,7 @@ module _ (o : Options) (image : List ℕ) (z : headerTest o image ≡ 0) (wanted
 
   -- whether slot n is live and its key wanted
   abbrev picked : ℕ → Bool
-  picked n = eqb (metaOf s image n) 1 && wanted (keyOf s image n)
+  picked n = eqb (metaOf (s .layout) image n) 1 && wanted (keyOf (s .layout) image n)
 
   abbrev slots : List ℕ
   slots = matches s image wanted
@@ -43,7 +43,7 @@ module _ (o : Options) (image : List ℕ) (z : headerTest o image ≡ 0) (wanted
   few =
       omega (arith, passing-le picked (s .«slot_highwater»), fit-shaped o image s (judged-fit o image z) .highwater, same-capacity o image z)
 
-  inside : (n : ℕ) → n < s .«slot_highwater» → n < s .«slot_capacity»
+  inside : (n : ℕ) → n < s .«slot_highwater» → n < s .layout .«slot_capacity»
   inside n h = omega (arith, fit-shaped o image s (judged-fit o image z) .highwater)
 
   module _ (sound : Sound (tableOf s image)) (limit : ℕ) (numbers : List ℕ) (roomy : Roomy o limit numbers) where
@@ -54,18 +54,18 @@ module _ (o : Options) (image : List ℕ) (z : headerTest o image ≡ 0) (wanted
     at = whole-entry slots numbers long
 
     -- entry i is a live slot, and its key is wanted
-    live : (i : ℕ) → i < length slots → Has s image (keyOf s image (getD slots i 0)) (getD slots i 0) × (wanted (keyOf s image (getD slots i 0)) ≡ true)
+    live : (i : ℕ) → i < length slots → Has s image (keyOf (s .layout) image (getD slots i 0)) (getD slots i 0) × (wanted (keyOf (s .layout) image (getD slots i 0)) ≡ true)
     unfolding matches
     live i h =
         let a = passing-ascends picked (s .«slot_highwater») .each i h in
-        let p = and-eq-true-iff (eqb (metaOf s image (getD slots i 0)) 1) (wanted (keyOf s image (getD slots i 0))) .0 (a .1) in
+        let p = and-eq-true-iff (eqb (metaOf (s .layout) image (getD slots i 0)) 1) (wanted (keyOf (s .layout) image (getD slots i 0))) .0 (a .1) in
         (record { below = a .0; alive = eqb-true _ 1 (p .0); key = refl }, p .1)
 
-    shows : (i : ℕ) → i < length slots → Shows o image (getD slots i 0) (keyOf s image (getD slots i 0)) (entryOf s image (getD slots i 0))
+    shows : (i : ℕ) → i < length slots → Shows o image (getD slots i 0) (keyOf (s .layout) image (getD slots i 0)) (entryOf (s .layout) image (getD slots i 0))
     shows i h = slot-shows o image z (getD slots i 0) (inside _ (live i h .0 .below))
 
     -- what two shown entries have in common they have as keys of slots
-    shown-key : (i : ℕ) → i < length slots → (key : List ℕ) (e : Entry) → Shows o image (entry (wholeList slots numbers) i) key e → keyOf s image (getD slots i 0) ≡ key
+    shown-key : (i : ℕ) → i < length slots → (key : List ℕ) (e : Entry) → Shows o image (entry (wholeList slots numbers) i) key e → keyOf (s .layout) image (getD slots i 0) ≡ key
     shown-key i h key e x = sym (shows i h .key-bytes) ∙ (rw (at i h) at x) .key-bytes
 
     every : (key : List ℕ) (e : Entry) → mapOf s image key ≡ some e → wanted key ≡ true
@@ -93,8 +93,8 @@ module _ (o : Options) (image : List ℕ) (z : headerTest o image ≡ 0) (wanted
           answers = refl;
           all = refl;
           each = λ i h. (
-            keyOf s image (getD slots i 0),
-            (entryOf s image (getD slots i 0), (rw (at i h) (shows i h), map-has s image sound _ (getD slots i 0) (live i h .0), live i h .1)),
+            keyOf (s .layout) image (getD slots i 0),
+            (entryOf (s .layout) image (getD slots i 0), (rw (at i h) (shows i h), map-has s image sound _ (getD slots i 0) (live i h .0), live i h .1)),
           );
           every = every;
           ascending = ascending;

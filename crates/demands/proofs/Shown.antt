@@ -24,33 +24,33 @@ module _ (o : Options) (image : List ℕ) (z : headerTest o image ≡ 0) where
   shaped : Shaped s image
   shaped = fit-shaped o image s (judged-fit o image z)
 
-  pub same-key-size : s .«key_size» ≡ o .«key_size»
+  pub same-key-size : s .layout .«key_size» ≡ o .«key_size»
   same-key-size = fit-key-size o image s (judged-fit o image z)
 
-  same-index-size : s .«index_size» ≡ o .«index_size»
+  same-index-size : s .layout .«index_size» ≡ o .«index_size»
   same-index-size = fit-index-size o image s (judged-fit o image z)
 
-  pub same-capacity : s .«slot_capacity» ≡ o .«slot_capacity»
+  pub same-capacity : s .layout .«slot_capacity» ≡ o .«slot_capacity»
   same-capacity = fit-slot-capacity o image s (judged-fit o image z)
 
-  module _ (n : ℕ) (inside : n < s .«slot_capacity») where
+  module _ (n : ℕ) (inside : n < s .layout .«slot_capacity») where
     given : (place : ℕ) → placeIn o n place ≡ place
     unfolding placeIn
     given place = rw (passes o image z .first, lt-ltb n (o .«slot_capacity») (rw same-capacity at inside)) refl
 
-    key-placed : keyPlace o n ≡ keyAt s n
+    key-placed : keyPlace o n ≡ keyAt (s .layout) n
     unfolding keyPlace keyAt slotAt
-    key-placed = given _ ∙ rw (shaped .slot, same-key-size, same-index-size) refl
+    key-placed = given _ ∙ rw (shaped .laid .slot, same-key-size, same-index-size) refl
 
-    index-placed : indexPlace o n ≡ indexAt s n
+    index-placed : indexPlace o n ≡ indexAt (s .layout) n
     unfolding indexPlace indexAt slotAt
-    index-placed = given _ ∙ rw (shaped .slot, same-key-size, same-index-size) refl
+    index-placed = given _ ∙ rw (shaped .laid .slot, same-key-size, same-index-size) refl
 
-    revision-placed : indexPlace o n - 8 ≡ revisionAt s n
-    revision-placed = omega (arith, index-placed, revision-in-slot s n)
+    revision-placed : indexPlace o n - 8 ≡ revisionAt (s .layout) n
+    revision-placed = omega (arith, index-placed, revision-in-slot (s .layout) n)
 
     -- a slot shows its key and its entry
-    pub slot-shows : Shows o image n (keyOf s image n) (entryOf s image n)
+    pub slot-shows : Shows o image n (keyOf (s .layout) image n) (entryOf (s .layout) image n)
     unfolding keyOf revisionOf indexOf
     slot-shows =
         record {
@@ -58,6 +58,6 @@ module _ (o : Options) (image : List ℕ) (z : headerTest o image ≡ 0) where
           key-bytes = rw (key-placed, ← same-key-size) refl;
           index-bytes = rw (index-placed, ← same-index-size) refl;
           revision-bytes = rw revision-placed refl;
-          key-inside = rw (key-placed, ← same-key-size) (key-inside s image shaped n inside);
-          index-inside = rw (index-placed, ← same-index-size) (index-inside s image shaped n inside);
+          key-inside = rw (key-placed, ← same-key-size) (key-inside (s .layout) image (shaped .laid) n inside);
+          index-inside = rw (index-placed, ← same-index-size) (index-inside (s .layout) image (shaped .laid) n inside);
         }

@@ -13,7 +13,7 @@ use Rattle.header.specs.declared.options.Options.{Options}
 use Rattle.header.specs.declared.open.UserFields.{UserFields}
 use Rattle.header.specs.Answer.{done}
 use Rattle.header.specs.Fields.{bytesIn, value}
-use Rattle.header.specs.HeaderTest.{shapeOf}
+use Rattle.header.specs.HeaderTest.{layoutOf, shapeOf}
 use Rattle.header.specs.Open.{noFields, openOf}
 use Rattle.header.specs.Sizes.{align8}
 use Rattle.writing.specs.Write.{Written}
@@ -88,7 +88,7 @@ at-the-end = demand2 .reads history6 0 (steps .reader-passes)
 
 -- a map that batches made, read at a key
 read : Unit {0}
-unfolding applied appliedTo actsOn entryIn recordCount recordAt metaIn keyIn shapeOf value bytesIn part word bytesOf same signed align8
+unfolding applied appliedTo actsOn entryIn recordCount recordAt metaIn keyIn shapeOf layoutOf value bytesIn part word bytesOf same signed align8
 read = tt
 
 pub story : Story

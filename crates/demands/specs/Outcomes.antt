@@ -34,16 +34,16 @@ use Rattle.header.proofs.sizes.bucket_count.Reads as bucket-count-reads
 use Rattle.header.proofs.sizes.buckets_offset.Reads as buckets-offset-reads
 use Rattle.header.proofs.sizes.total_size.Reads as total-size-reads
 use Rattle.image.proofs.check.passes_check.Reads as passes-check-reads
-use Rattle.image.proofs.lookup.revision_at.Reads as revision-at-reads
-use Rattle.image.proofs.lookup.slot_index.Reads as slot-index-reads
+use Rattle.image.proofs.table.revision_of.Reads as revision-of-reads
+use Rattle.image.proofs.table.index_of.Reads as index-of-reads
 use Rattle.image.proofs.lookup.lookup_in.Reads as lookup-in-reads
-use Rattle.image.proofs.probe.slot_at.Reads as slot-at-reads
-use Rattle.image.proofs.probe.bucket_at.Reads as bucket-at-reads
-use Rattle.image.proofs.probe.meta_at.Reads as meta-at-reads
-use Rattle.image.proofs.probe.key_part.Reads as key-part-reads
-use Rattle.image.proofs.probe.hash64_at.Reads as hash64-at-reads
-use Rattle.image.proofs.probe.slot_plus1_at.Reads as slot-plus1-at-reads
-use Rattle.image.proofs.probe.next_bucket.Reads as next-bucket-reads
+use Rattle.image.proofs.table.slot_at.Reads as slot-at-reads
+use Rattle.image.proofs.table.bucket_at.Reads as bucket-at-reads
+use Rattle.image.proofs.table.meta_of.Reads as meta-of-reads
+use Rattle.image.proofs.table.key_of.Reads as key-of-reads
+use Rattle.image.proofs.table.hash64_of.Reads as hash64-of-reads
+use Rattle.image.proofs.table.slot_plus1_of.Reads as slot-plus1-of-reads
+use Rattle.image.proofs.table.next_bucket.Reads as next-bucket-reads
 use Rattle.image.proofs.probe.probe_for.Reads as probe-for-reads
 use Rattle.listing.proofs.listed.refused.Reads as refused-reads
 use Rattle.writing.proofs.fields.write.Reads as write-reads
@@ -61,14 +61,13 @@ use Rattle.batch.proofs.batch.record.Reads as record-reads
 use Rattle.batch.proofs.batch.meta_in.Reads as meta-in-reads
 use Rattle.batch.proofs.batch.key_in.Reads as key-in-reads
 use Rattle.batch.proofs.batch.batch_wrong.Reads as batch-wrong-reads
-use Rattle.batch.proofs.batch.meta_of.Reads as meta-of-reads
-use Rattle.batch.proofs.batch.key_of.Reads as key-of-reads
+use Rattle.batch.proofs.batch.record_meta.Reads as record-meta-reads
+use Rattle.batch.proofs.batch.record_key.Reads as record-key-reads
 use Rattle.batch.proofs.batch.decides.Reads as decides-reads
-use Rattle.batch.proofs.news.one_if.Reads as one-if-reads
-use Rattle.batch.proofs.news.find_news.Reads as find-news-reads
-use Rattle.batch.proofs.news.news_below.Reads as news-below-reads
-use Rattle.batch.proofs.news.mark_news.Reads as mark-news-reads
-use Rattle.batch.proofs.news.marked_at.Reads as marked-at-reads
+use Rattle.batch.proofs.new_keys.one_if.Reads as one-if-reads
+use Rattle.batch.proofs.new_keys.count_flags.Reads as count-flags-reads
+use Rattle.batch.proofs.new_keys.mark_new_keys.Reads as mark-new-keys-reads
+use Rattle.batch.proofs.new_keys.marked_at.Reads as marked-at-reads
 use Rattle.applying.proofs.apply.apply.Reads as apply-reads
 
 -- A promise speaks of the arguments, the result and what is lent at the return; `outcome` picks what a caller sees.
@@ -121,16 +120,16 @@ pub record Outcomes : Type 2 where
   -- image, check
   pub passes-check : One passes-check-reads.Post (λ κ x e. x)
   -- image, lookup
-  pub revision-at : One revision-at-reads.Post (λ κ x e. x)
-  pub slot-index : One slot-index-reads.Post (λ κ x e. now x)
+  pub revision-of : One revision-of-reads.Post (λ κ x e. x)
+  pub index-of : One index-of-reads.Post (λ κ x e. now x)
   pub lookup-in : One lookup-in-reads.Post (λ κ x e. x)
   -- image, probe
   pub slot-at : One slot-at-reads.Post (λ κ x e. x)
   pub bucket-at : One bucket-at-reads.Post (λ κ x e. x)
-  pub meta-at : One meta-at-reads.Post (λ κ x e. x)
-  pub key-part : One key-part-reads.Post (λ κ x e. now x)
-  pub hash64-at : One hash64-at-reads.Post (λ κ x e. x)
-  pub slot-plus1-at : One slot-plus1-at-reads.Post (λ κ x e. x)
+  pub meta-of : One meta-of-reads.Post (λ κ x e. x)
+  pub key-of : One key-of-reads.Post (λ κ x e. now x)
+  pub hash64-of : One hash64-of-reads.Post (λ κ x e. x)
+  pub slot-plus1-of : One slot-plus1-of-reads.Post (λ κ x e. x)
   pub next-bucket : One next-bucket-reads.Post (λ κ x e. x)
   pub probe-for : One probe-for-reads.Post (λ κ x e. x)
   -- listing, listed
@@ -154,14 +153,13 @@ pub record Outcomes : Type 2 where
   pub meta-in : One meta-in-reads.Post (λ κ x e. x)
   pub key-in : One key-in-reads.Post (λ κ x e. now x)
   pub batch-wrong : One batch-wrong-reads.Post (λ κ x e. x)
-  pub meta-of : One meta-of-reads.Post (λ κ x e. x)
-  pub key-of : One key-of-reads.Post (λ κ x e. now x)
+  pub record-meta : One record-meta-reads.Post (λ κ x e. x)
+  pub record-key : One record-key-reads.Post (λ κ x e. now x)
   pub decides : One decides-reads.Post (λ κ x e. x)
-  -- batch, news
+  -- batch, new_keys
   pub one-if : One one-if-reads.Post (λ κ x e. x)
-  pub find-news : One find-news-reads.Post (λ κ x e. x)
-  pub news-below : One news-below-reads.Post (λ κ x e. x)
-  pub mark-news : One mark-news-reads.Post (λ κ x e. x)
+  pub count-flags : One count-flags-reads.Post (λ κ x e. x)
+  pub mark-new-keys : One mark-new-keys-reads.Post (λ κ x e. x)
   pub marked-at : One marked-at-reads.Post (λ κ x e. x)
   -- applying, apply
   pub apply : One apply-reads.Post (λ κ x e. now (arg1 e))

@@ -95,19 +95,19 @@ pub record FurtherRefusals : Type 0 where
   pub one-before : firstOf (generationTest (put image5 0x40 (words 8 (0xFFFFFFFFFFFFFFFC ∷ [])))) ≡ 0
   -- "batch length no multiple of slot_size, over 64 records, or a malformed record": meta neither 0 nor 1, padding that is not
   -- zero, a delete with a revision or an index
-  pub empty : batchWrong s [] ≡ false
-  pub a-put : batchWrong s (slot 1 64 1 1) ≡ false
-  pub a-delete : batchWrong s (slot 0 64 0 0) ≡ false
-  pub cut : batchWrong s (take 31 (slot 1 64 1 1)) ≡ true
-  pub records-64 : batchWrong s (zeros 256) ≡ false
-  pub records-65 : batchWrong s (zeros 260) ≡ true
-  pub meta-2 : batchWrong s (slot 2 64 1 1) ≡ true
-  pub key-padding : batchWrong s (slot 1 0x0140 1 1) ≡ true
-  pub index-padding : batchWrong s (slot 1 64 1 0x0101) ≡ true
-  pub delete-revision : batchWrong s (slot 0 64 1 0) ≡ true
-  pub delete-index : batchWrong s (slot 0 64 0 1) ≡ true
+  pub empty : batchWrong (s .layout) [] ≡ false
+  pub a-put : batchWrong (s .layout) (slot 1 64 1 1) ≡ false
+  pub a-delete : batchWrong (s .layout) (slot 0 64 0 0) ≡ false
+  pub cut : batchWrong (s .layout) (take 31 (slot 1 64 1 1)) ≡ true
+  pub records-64 : batchWrong (s .layout) (zeros 256) ≡ false
+  pub records-65 : batchWrong (s .layout) (zeros 260) ≡ true
+  pub meta-2 : batchWrong (s .layout) (slot 2 64 1 1) ≡ true
+  pub key-padding : batchWrong (s .layout) (slot 1 0x0140 1 1) ≡ true
+  pub index-padding : batchWrong (s .layout) (slot 1 64 1 0x0101) ≡ true
+  pub delete-revision : batchWrong (s .layout) (slot 0 64 1 0) ≡ true
+  pub delete-index : batchWrong (s .layout) (slot 0 64 0 1) ≡ true
   -- the second of two records counts as much as the first
-  pub second-record : batchWrong s (slot 1 64 1 1 ++ slot 2 64 1 1) ≡ true
+  pub second-record : batchWrong (s .layout) (slot 1 64 1 1 ++ slot 2 64 1 1) ≡ true
 
 -- The full check's sentences, and what lookup says of such an image.
 pub record CheckRefusals : Type 0 where

@@ -10,7 +10,7 @@ use lib.ListN.{length}
 use Rattle.header.specs.declared.options.Options.{Options}
 use Rattle.header.specs.declared.shape.Shape.{Shape}
 use Rattle.header.specs.declared.shape.Judged.the-variants.{Fit, Refused}
-use Rattle.header.specs.HeaderTest.{headerTest, shapeOf, verdict, judged}
+use Rattle.header.specs.HeaderTest.{headerTest, layoutOf, shapeOf, verdict, judged}
 use Rattle.header.specs.Shaped.{Shaped}
 use Rattle.header.specs.Sizes.{sizesAllowed, bucketCount}
 use Rattle.header.proofs.Allowed.{allowed}
@@ -63,43 +63,45 @@ module _ (o : Options) (image : List ℕ) (s : Shape) (fit : judged o image ≡ 
   says = agreed o image (passed .eighth)
 
   -- the shape's sizes are the options'
-  pub fit-key-size : s .«key_size» ≡ o .«key_size»
-  unfolding shapeOf
+  pub fit-key-size : s .layout .«key_size» ≡ o .«key_size»
+  unfolding shapeOf layoutOf
   fit-key-size = rw fit-shape (says .key)
 
-  pub fit-index-size : s .«index_size» ≡ o .«index_size»
-  unfolding shapeOf
+  pub fit-index-size : s .layout .«index_size» ≡ o .«index_size»
+  unfolding shapeOf layoutOf
   fit-index-size = rw fit-shape (says .index)
 
-  pub fit-slot-capacity : s .«slot_capacity» ≡ o .«slot_capacity»
-  unfolding shapeOf
+  pub fit-slot-capacity : s .layout .«slot_capacity» ≡ o .«slot_capacity»
+  unfolding shapeOf layoutOf
   fit-slot-capacity = rw fit-shape (says .capacity)
 
-  pub fit-ordered : s .ordered ≡ eqb (o .ordered) 1
-  unfolding shapeOf
+  pub fit-ordered : s .layout .ordered ≡ eqb (o .ordered) 1
+  unfolding shapeOf layoutOf
   fit-ordered = rw (fit-shape, says .flag) refl
 
-  pub fit-bucket-count : s .«bucket_count» ≡ bucketCount (o .«slot_capacity»)
-  unfolding shapeOf
+  pub fit-bucket-count : s .layout .«bucket_count» ≡ bucketCount (o .«slot_capacity»)
+  unfolding shapeOf layoutOf
   fit-bucket-count = rw fit-shape (ruled o image (passed .ninth))
 
   -- a slot number, and a bucket number, has 32 bits
-  pub fit-small : s .«bucket_count» ≤ 2 ^ 32
+  pub fit-small : s .layout .«bucket_count» ≤ 2 ^ 32
   fit-small =
       let h = allowed o fit-allowed in
       rw fit-bucket-count (bucket-count-limit (o .«slot_capacity») (h .capacity-low) (h .capacity-high))
 
   pub fit-shaped : Shaped s image
-  unfolding shapeOf
+  unfolding shapeOf layoutOf
   fit-shaped =
       let h = allowed o fit-allowed in
       let room = bucket-count-room (o .«slot_capacity») (h .capacity-low) (h .capacity-high) in
       record {
-        slot = rw fit-shape (rw (says .key, says .index) (says .slot));
-        offset = rw fit-shape (extent-passed image (passed .tenth) .0);
-        inside = rw fit-shape (extent-passed image (passed .tenth) .1);
+        laid = record {
+          slot = rw fit-shape (rw (says .key, says .index) (says .slot));
+          offset = rw fit-shape (extent-passed image (passed .tenth) .0);
+          inside = rw fit-shape (extent-passed image (passed .tenth) .1);
+          room = rw (fit-slot-capacity, fit-bucket-count) room;
+          small = fit-small;
+        };
         counters = rw fit-shape (counters-passed image (passed .eleventh) .0);
         highwater = rw fit-shape (counters-passed image (passed .eleventh) .1);
-        room = rw (fit-slot-capacity, fit-bucket-count) room;
-        small = fit-small;
       }

@@ -8,6 +8,7 @@ use lib.ListN.{length}
 use Rattle.numbers.specs.Bytes.{allZero}
 use Rattle.digests.specs.Crc.{headerCrc}
 use Rattle.header.specs.declared.options.Options.{Options}
+use Rattle.header.specs.declared.shape.Layout.{Layout}
 use Rattle.header.specs.declared.shape.Shape.{Shape}
 use Rattle.header.specs.declared.shape.Judged.{Judged}
 use Rattle.header.specs.declared.shape.Judged.the-variants.{Fit, Refused}
@@ -115,20 +116,26 @@ headerTests o image =
 unfoldable pub headerTest : Options → List ℕ → ℕ
 headerTest o image = firstOf (headerTests o image)
 
--- what the header says, for later calls
-unfoldable pub shapeOf : List ℕ → Shape
-shapeOf image =
+-- what the header says, for later calls: where slots and buckets lie, and what calls change
+unfoldable pub layoutOf : List ℕ → Layout
+layoutOf image =
     record {
       «key_size» = value image F.key-size;
       «index_size» = value image F.index-size;
       «slot_size» = value image F.slot-size;
       «slot_capacity» = value image F.slot-capacity;
-      «slot_highwater» = value image F.slot-highwater;
-      «live_count» = value image F.live-count;
       «bucket_count» = value image F.bucket-count;
-      «bucket_tombstones» = value image F.bucket-tombstones;
       «buckets_offset» = value image F.buckets-offset;
       ordered = eqb (value image F.flags) 1;
+    }
+
+unfoldable pub shapeOf : List ℕ → Shape
+shapeOf image =
+    record {
+      layout = layoutOf image;
+      «slot_highwater» = value image F.slot-highwater;
+      «live_count» = value image F.live-count;
+      «bucket_tombstones» = value image F.bucket-tombstones;
       state = value image F.state;
       generation = value image F.generation;
     }

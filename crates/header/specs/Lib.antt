@@ -5,4 +5,5 @@ pub mod FirstOf
 pub mod State
 pub mod HeaderTest
 pub mod Shaped
+pub mod Counters
 pub mod Open

@@ -6,7 +6,7 @@ ghost use Prim.Native.Nat.{_≤_};
 ghost use lib.ListN.{length};
 ghost use Rattle.header.specs.Sizes.{sizesAllowed};
 ghost use Rattle.header.specs.FirstOf.{firstOf};
-ghost use Rattle.header.specs.HeaderTest.{test1, test3, test4, test5, test6, test7, test8, test9, test10, test11, test12, headerTest, shapeOf, judged};
+ghost use Rattle.header.specs.HeaderTest.{test1, test3, test4, test5, test6, test7, test8, test9, test10, test11, test12, headerTest, layoutOf, shapeOf, judged};
 use crate::answer::DONE;
 use crate::answer::INVALID_INPUT;
 use crate::answer::refuse;
@@ -15,6 +15,7 @@ use crate::fields::read;
 use crate::options::Options;
 use crate::points;
 use crate::shape::Judged;
+use crate::shape::Layout;
 use crate::shape::Shape;
 use crate::sizes::sizes_allowed;
 use crate::state::HOLDS_THE_LOCK;
@@ -96,22 +97,32 @@ fn header_test(image: &[u8], o: Options) -> u32
     fitting_test(image, o)
 }
 
+// Where a header says that slots and buckets lie.
+fn layout_of(image: &[u8]) -> Layout
+    requires { ⌜ 256 ≤ length (now image) ⌝ }
+    ensures { λ r. ⌜ r ≡ layoutOf (now (image .entry)) ⌝ }
+{
+    Layout {
+        key_size: read(image, fields::KEY_SIZE) as usize,
+        index_size: read(image, fields::INDEX_SIZE) as usize,
+        slot_size: read(image, fields::SLOT_SIZE) as usize,
+        slot_capacity: read(image, fields::SLOT_CAPACITY) as usize,
+        bucket_count: read(image, fields::BUCKET_COUNT) as usize,
+        buckets_offset: read(image, fields::BUCKETS_OFFSET) as usize,
+        ordered: read(image, fields::FLAGS) == 1,
+    }
+}
+
 // What a header says, for later calls.
 fn shape_of(image: &[u8]) -> Shape
     requires { ⌜ 256 ≤ length (now image) ⌝ }
     ensures { λ r. ⌜ r ≡ shapeOf (now (image .entry)) ⌝ }
 {
     Shape {
-        key_size: read(image, fields::KEY_SIZE) as usize,
-        index_size: read(image, fields::INDEX_SIZE) as usize,
-        slot_size: read(image, fields::SLOT_SIZE) as usize,
-        slot_capacity: read(image, fields::SLOT_CAPACITY) as usize,
+        layout: layout_of(image),
         slot_highwater: read(image, fields::SLOT_HIGHWATER) as usize,
         live_count: read(image, fields::LIVE_COUNT) as usize,
-        bucket_count: read(image, fields::BUCKET_COUNT) as usize,
         bucket_tombstones: read(image, fields::BUCKET_TOMBSTONES) as usize,
-        buckets_offset: read(image, fields::BUCKETS_OFFSET) as usize,
-        ordered: read(image, fields::FLAGS) == 1,
         state: read(image, fields::STATE),
         generation: read(image, fields::GENERATION),
     }

@@ -35,7 +35,7 @@ pub record Whole (o : Options) (image : List ℕ) : Type 0 where
   pub lives : liveCount (itsTable image) ≡ shapeOf image .«live_count»
   pub fulls : fullCount (itsTable image) ≡ shapeOf image .«live_count»
   pub tombs : tombstoneCount (itsTable image) ≡ shapeOf image .«bucket_tombstones»
-  pub order : shapeOf image .ordered ≡ true → neverFall (itsTable image) ≡ true
+  pub order : shapeOf image .layout .ordered ≡ true → neverFall (itsTable image) ≡ true
 
 -- the number of a refusal is not 0
 header-passed : (n : ℕ) (c : Checked) → afterTest n c failed .answer ≡ 0 → n ≡ 0
@@ -48,11 +48,11 @@ module _ (o : Options) (image : List ℕ) where
   unfolding passes tableOf
   passes-whole h e =
       let s = shapeOf image in
-      let p = checks-passed (itsTable image) (s .ordered) (s .«live_count») (s .«live_count») (s .«bucket_tombstones») e in
+      let p = checks-passed (itsTable image) (s .layout .ordered) (s .«live_count») (s .«live_count») (s .«bucket_tombstones») e in
       let few = fewer (fit-shaped o image s (judged-fit o image h)) in
       record {
         header = h;
-        sound = passed-sound (itsTable image) (s .ordered) (s .«live_count») (s .«live_count») (s .«bucket_tombstones») p refl few;
+        sound = passed-sound (itsTable image) (s .layout .ordered) (s .«live_count») (s .«live_count») (s .«bucket_tombstones») p refl few;
         metas = p .metas;
         lives = p .lives;
         fulls = p .fulls;
@@ -60,15 +60,15 @@ module _ (o : Options) (image : List ℕ) where
         order = p .order;
       }
     where
-      fewer : Shaped (shapeOf image) image → shapeOf image .«live_count» + shapeOf image .«bucket_tombstones» < shapeOf image .«bucket_count»
-      fewer fit = omega (arith, fit .counters, fit .highwater, fit .room)
+      fewer : Shaped (shapeOf image) image → shapeOf image .«live_count» + shapeOf image .«bucket_tombstones» < shapeOf image .layout .«bucket_count»
+      fewer fit = omega (arith, fit .counters, fit .highwater, fit .laid .room)
 
   -- and the other way
   pub whole-passes : Whole o image → passes (shapeOf image) image ≡ true
   unfolding passes tableOf
   whole-passes w =
       let s = shapeOf image in
-      sound-checks (itsTable image) (s .ordered) (s .«live_count») (s .«live_count») (s .«bucket_tombstones»)
+      sound-checks (itsTable image) (s .layout .ordered) (s .«live_count») (s .«live_count») (s .«bucket_tombstones»)
       (w .sound) (w .metas) (w .lives) (w .fulls) (w .tombs) (w .order)
 
   -- where the header test passes, buckets and slots decide

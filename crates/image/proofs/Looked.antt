@@ -44,19 +44,19 @@ module _ (s : Shape) (image key : List ℕ) where
   found-below n count e = found-run (tableOf s image) key n count e .last .below
 
   -- a key of another length
-  pub looked-other : (length key ≡ s .«key_size» → ⊥) → nothing invalid-input ≡ lookupIn s image key
+  pub looked-other : (length key ≡ s .layout .«key_size» → ⊥) → nothing invalid-input ≡ lookupIn s image key
   unfolding lookupIn
-  looked-other differs = rw (ne-eqb (length key) (s .«key_size») differs)
+  looked-other differs = rw (ne-eqb (length key) (s .layout .«key_size») differs)
 
   -- a key of that length, by what the probe ends in
-  pub looked-by : length key ≡ s .«key_size» → (p : Probed) → probeOf s image key ≡ p → lookupBy s image p ≡ lookupIn s image key
+  pub looked-by : length key ≡ s .layout .«key_size» → (p : Probed) → probeOf s image key ≡ p → lookupBy s image p ≡ lookupIn s image key
   unfolding lookupIn
-  looked-by e p q = rw (eq-eqb (length key) (s .«key_size») e, q)
+  looked-by e p q = rw (eq-eqb (length key) (s .layout .«key_size») e, q)
 
   -- the slot that lookup gives with 0 is below highwater
   pub looked-below : lookupIn s image key .answer ≡ done → lookupIn s image key .slot < s .«slot_highwater»
   unfolding lookupIn
-  looked-below e = go (eqb (length key) (s .«key_size»)) (probeOf s image key) refl e
+  looked-below e = go (eqb (length key) (s .layout .«key_size»)) (probeOf s image key) refl e
     where
       go : (equal : Bool) (p : Probed) → probeOf s image key ≡ p → cond equal (lookupBy s image p) (nothing invalid-input) .answer ≡ done
           → cond equal (lookupBy s image p) (nothing invalid-input) .slot < s .«slot_highwater»
@@ -78,7 +78,7 @@ module _ (o : Options) (image key : List ℕ) where
   -- the index of the slot found, or none
   pub index-found :
       (s : Shape) → judged o image ≡ Fit s → (l : Lookup) → l ≡ lookupOf o image key → l .answer ≡ done
-      → indexOf s image (l .slot) ≡ indexPart o image key
+      → indexOf (s .layout) image (l .slot) ≡ indexPart o image key
   unfolding indexPart
   index-found s e l q z = rw (← fit-shape o image s e, ← q, eq-eqb (l .answer) done z)
 

@@ -27,10 +27,10 @@ chosen true y e = eq-eqb _ _ e
 chosen false y e = refl
 
 module _ (s : Shape) (image : List ℕ) where
-  module _ (y : BucketTally) (z : SlotTally) (ey : y ≡ bucketsTo (tableOf s image) (s .«bucket_count»)) (ez : z ≡ slotsTo (tableOf s image) (s .«slot_highwater»)) where
+  module _ (y : BucketTally) (z : SlotTally) (ey : y ≡ bucketsTo (tableOf s image) (s .layout .«bucket_count»)) (ez : z ≡ slotsTo (tableOf s image) (s .«slot_highwater»)) where
     -- the tests that the code makes are those of the full check
     pub tests-passes :
-        (order : Bool) → order ≡ not (s .ordered) || neverFall (tableOf s image)
+        (order : Bool) → order ≡ not (s .layout .ordered) || neverFall (tableOf s image)
         → y .right && z .metas && z .found
         && (eqb (z .live) (s .«live_count») && eqb (y .full) (s .«live_count») && eqb (y .tombstones) (s .«bucket_tombstones»))
         && order

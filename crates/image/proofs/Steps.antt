@@ -41,19 +41,19 @@ module _ (s : Shape) (image key : List ℕ) (h n count : ℕ) (onward : Probed) 
     full-other-hash differs = rw (lt-leb (s .«slot_highwater») n l, ne-eqb h (fnv1a64 key) differs)
 
     module _ (e : h ≡ fnv1a64 key) where
-      pub full-other-key : same (keyOf s image n) key ≡ false → onward ≡ examine (tableOf s image) key count onward (FULL h n)
+      pub full-other-key : same (keyOf (s .layout) image n) key ≡ false → onward ≡ examine (tableOf s image) key count onward (FULL h n)
       unfolding examine tableOf
       full-other-key differs = rw (lt-leb (s .«slot_highwater») n l, eq-eqb h (fnv1a64 key) e, differs)
 
       -- the key's slot, by its meta
-      module _ (equal : same (keyOf s image n) key ≡ true) where
-        pub full-live : metaOf s image n ≡ 1 → found n count ≡ examine (tableOf s image) key count onward (FULL h n)
+      module _ (equal : same (keyOf (s .layout) image n) key ≡ true) where
+        pub full-live : metaOf (s .layout) image n ≡ 1 → found n count ≡ examine (tableOf s image) key count onward (FULL h n)
         unfolding examine tableOf
-        full-live m = rw (lt-leb (s .«slot_highwater») n l, eq-eqb h (fnv1a64 key) e, equal, eq-eqb (metaOf s image n) 1 m)
+        full-live m = rw (lt-leb (s .«slot_highwater») n l, eq-eqb h (fnv1a64 key) e, equal, eq-eqb (metaOf (s .layout) image n) 1 m)
 
-        pub full-dead : (metaOf s image n ≡ 1 → ⊥) → broken ≡ examine (tableOf s image) key count onward (FULL h n)
+        pub full-dead : (metaOf (s .layout) image n ≡ 1 → ⊥) → broken ≡ examine (tableOf s image) key count onward (FULL h n)
         unfolding examine tableOf
-        full-dead m = rw (lt-leb (s .«slot_highwater») n l, eq-eqb h (fnv1a64 key) e, equal, ne-eqb (metaOf s image n) 1 m)
+        full-dead m = rw (lt-leb (s .«slot_highwater») n l, eq-eqb h (fnv1a64 key) e, equal, ne-eqb (metaOf (s .layout) image n) 1 m)
 
 -- one bucket of a probe, as the code tells it, then the rest
 pub probe-turn :

@@ -33,14 +33,14 @@ module _ (s : Shape) (image : List ℕ) (h n : ℕ) where
 
   module _ (l : n < s .«slot_highwater») where
     -- so is one that points at a slot that is not live
-    pub dead-wrong : (metaOf s image n ≡ 1 → ⊥) → false ≡ bucketRight (tableOf s image) (FULL h n)
+    pub dead-wrong : (metaOf (s .layout) image n ≡ 1 → ⊥) → false ≡ bucketRight (tableOf s image) (FULL h n)
     unfolding tableOf
-    dead-wrong m = rw (lt-ltb n (s .«slot_highwater») l, ne-eqb (metaOf s image n) 1 m)
+    dead-wrong m = rw (lt-ltb n (s .«slot_highwater») l, ne-eqb (metaOf (s .layout) image n) 1 m)
 
     -- at a live slot its key's hash decides
-    pub hash-decides : metaOf s image n ≡ 1 → eqb h (fnv1a64 (keyOf s image n)) ≡ bucketRight (tableOf s image) (FULL h n)
+    pub hash-decides : metaOf (s .layout) image n ≡ 1 → eqb h (fnv1a64 (keyOf (s .layout) image n)) ≡ bucketRight (tableOf s image) (FULL h n)
     unfolding tableOf
-    hash-decides m = rw (lt-ltb n (s .«slot_highwater») l, eq-eqb (metaOf s image n) 1 m)
+    hash-decides m = rw (lt-ltb n (s .«slot_highwater») l, eq-eqb (metaOf (s .layout) image n) 1 m)
 
 -- the tally of the buckets below n + 1, by what bucket n is
 module _ (t : Table) (n : ℕ) (y : BucketTally) (e : y ≡ bucketsTo t n) where

@@ -17,7 +17,7 @@ failed answer = record { answer = answer; live = 0; tombstones = 0; probes = 0 }
 
 -- whether every sentence of the full check's paragraph holds: live_count is bucket_used by the header test
 unfoldable pub passes : Shape → List ℕ → Bool
-passes s image = checks (tableOf s image) (s .ordered) (s .«live_count») (s .«live_count») (s .«bucket_tombstones»)
+passes s image = checks (tableOf s image) (s .layout .ordered) (s .«live_count») (s .«live_count») (s .«bucket_tombstones»)
 
 -- "Otherwise 1; where all this holds, 0. It returns live, tombstones and the sum of lookup counts over live keys."
 unfoldable pub checkIn : Shape → List ℕ → Checked

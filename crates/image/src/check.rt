@@ -9,11 +9,12 @@ ghost use Rattle.image.specs.Table.{tableOf};
 ghost use Rattle.image.specs.Tally.{bucketsTo, slotsTo};
 ghost use Rattle.image.specs.Check.{failed, passes, checkIn, checkOf};
 use crate::probe::Probe;
-use crate::probe::hash64_at;
-use crate::probe::key_part;
-use crate::probe::meta_at;
 use crate::probe::probe_for;
-use crate::probe::slot_plus1_at;
+use crate::table::TOMBSTONE;
+use crate::table::hash64_of;
+use crate::table::key_of;
+use crate::table::meta_of;
+use crate::table::slot_plus1_of;
 use digests::fnv::fnv1a64_of;
 use header::answer::DONE;
 use header::answer::NEEDS_REBUILD;
@@ -55,31 +56,31 @@ fn full_right(image: &[u8], s: Shape, hash64: u64, n: usize) -> bool
     if n >= s.slot_highwater {
         return false;
     }
-    if meta_at(image, s, n) != 1 {
+    if meta_of(image, s.layout, n) != 1 {
         return false;
     }
-    hash64 == fnv1a64_of(key_part(image, s, n))
+    hash64 == fnv1a64_of(key_of(image, s.layout, n))
 }
 
 // The tally with bucket b, from that of the buckets before it.
 fn with_bucket(image: &[u8], s: Shape, b: usize, tally: BucketTally) -> BucketTally
     requires { ⌜ Shaped s (now image) ⌝ }
-    requires { ⌜ b < s .«bucket_count» ⌝ }
+    requires { ⌜ b < s .layout .«bucket_count» ⌝ }
     requires { ⌜ tally ≡ bucketsTo (tableOf s (now image)) b ⌝ }
     ensures { λ r. ⌜ r ≡ bucketsTo (tableOf s (now (image .entry))) (b + 1) ⌝ }
 {
-    let slot_plus1 = slot_plus1_at(image, s, b);
+    let slot_plus1 = slot_plus1_of(image, s.layout, b);
     if slot_plus1 == 0 {
         return tally;
     }
-    if slot_plus1 == 18446744073709551615 {
+    if slot_plus1 == TOMBSTONE {
         return BucketTally {
             right: tally.right,
             full: tally.full,
             tombstones: tally.tombstones + 1,
         };
     }
-    let hash64 = hash64_at(image, s, b);
+    let hash64 = hash64_of(image, s.layout, b);
     let right = full_right(image, s, hash64, (slot_plus1 - 1) as usize);
     BucketTally {
         right: tally.right & right,
@@ -91,9 +92,9 @@ fn with_bucket(image: &[u8], s: Shape, b: usize, tally: BucketTally) -> BucketTa
 // What all the buckets say.
 fn read_buckets(image: &[u8], s: Shape) -> BucketTally
     requires { ⌜ Shaped s (now image) ⌝ }
-    ensures { λ r. ⌜ r ≡ bucketsTo (tableOf s (now (image .entry))) (s .«bucket_count») ⌝ }
+    ensures { λ r. ⌜ r ≡ bucketsTo (tableOf s (now (image .entry))) (s .layout .«bucket_count») ⌝ }
 {
-    let count = s.bucket_count;
+    let count = s.layout.bucket_count;
     let mut tally = BucketTally {
         right: true,
         full: 0,
@@ -114,7 +115,7 @@ fn with_slot(image: &[u8], s: Shape, n: usize, tally: SlotTally) -> SlotTally
     requires { ⌜ tally ≡ slotsTo (tableOf s (now image)) n ⌝ }
     ensures { λ r. ⌜ r ≡ slotsTo (tableOf s (now (image .entry))) (n + 1) ⌝ }
 {
-    let meta = meta_at(image, s, n);
+    let meta = meta_of(image, s.layout, n);
     if meta == 0 {
         return tally;
     }
@@ -127,7 +128,7 @@ fn with_slot(image: &[u8], s: Shape, n: usize, tally: SlotTally) -> SlotTally
         };
     }
     let live = tally.live + 1;
-    let p = probe_for(image, s, key_part(image, s, n));
+    let p = probe_for(image, s, key_of(image, s.layout, n));
     match p {
         Probe::Found { slot, buckets } => SlotTally {
             metas: tally.metas,
@@ -178,7 +179,7 @@ fn never_fall(image: &[u8], s: Shape) -> bool
     let highwater = s.slot_highwater;
     let mut n = 0;
     while n + 1 < highwater {
-        if comes_before(key_part(image, s, n + 1), key_part(image, s, n)) {
+        if comes_before(key_of(image, s.layout, n + 1), key_of(image, s.layout, n)) {
             return false;
         }
         n += 1;
@@ -189,9 +190,9 @@ fn never_fall(image: &[u8], s: Shape) -> bool
 // Whether the keys are as the ordered flag asks.
 fn order_right(image: &[u8], s: Shape) -> bool
     requires { ⌜ Shaped s (now image) ⌝ }
-    ensures { λ r. ⌜ r ≡ not (s .ordered) || neverFall (tableOf s (now (image .entry))) ⌝ }
+    ensures { λ r. ⌜ r ≡ not (s .layout .ordered) || neverFall (tableOf s (now (image .entry))) ⌝ }
 {
-    if s.ordered {
+    if s.layout.ordered {
         return never_fall(image, s);
     }
     true

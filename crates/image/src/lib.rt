@@ -2,3 +2,4 @@
 pub mod check;
 pub mod lookup;
 pub mod probe;
+pub mod table;

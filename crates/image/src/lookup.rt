@@ -1,12 +1,11 @@
 // Lookup: the slot, the revision and the index of a key.
 ghost use mathlib.Core.Path.{_≡_};
-ghost use Prim.Native.Nat.{_^_, _<_};
 ghost use Rattle.header.specs.Shaped.{Shaped};
-ghost use Rattle.image.specs.Table.{revisionAt, revisionOf, indexOf};
 ghost use Rattle.image.specs.Lookup.{nothing, lookupIn, lookupOf, indexPart};
 use crate::probe::Probe;
 use crate::probe::probe_for;
-use crate::probe::slot_at;
+use crate::table::index_of;
+use crate::table::revision_of;
 use header::answer::DONE;
 use header::answer::INVALID_INPUT;
 use header::answer::NEEDS_REBUILD;
@@ -15,9 +14,6 @@ use header::judge::judge;
 use header::options::Options;
 use header::shape::Judged;
 use header::shape::Shape;
-use header::sizes::align8;
-use numbers::words::signed_of;
-use numbers::words::u64_at;
 
 // answer: 0 with the slot, its revision and the number of buckets examined; 9 with that number alone; else all zero.
 pub struct Lookup {
@@ -39,47 +35,18 @@ fn refused(answer: u32) -> Lookup
     }
 }
 
-// Where the revision of slot n begins.
-fn revision_start(s: Shape, n: usize) -> usize
-    requires { ⌜ revisionAt s n < 2 ^ 64 ⌝ }
-    ensures { λ r. ⌜ r ≡ revisionAt s n ⌝ }
-{
-    slot_at(s, n) + 8 + (align8(s.key_size as u64) as usize)
-}
-
-// The revision of slot n.
-pub fn revision_at(image: &[u8], s: Shape, n: usize) -> i64
-    requires { ⌜ Shaped s (now image) ⌝ }
-    requires { ⌜ n < s .«slot_capacity» ⌝ }
-    ensures { λ r. ⌜ r ≡ revisionOf s (now (image .entry)) n ⌝ }
-{
-    let at = revision_start(s, n);
-    signed_of(u64_at(image, at))
-}
-
-// The index of slot n: the image's own bytes.
-pub fn slot_index<'a>(image: &'a [u8], s: Shape, n: usize) -> &'a [u8]
-    requires { ⌜ Shaped s (now image) ⌝ }
-    requires { ⌜ n < s .«slot_capacity» ⌝ }
-    ensures { λ r. ⌜ now r ≡ indexOf s (now (image .entry)) n ⌝ }
-{
-    let at = revision_start(s, n) + 8;
-    let end = at + s.index_size;
-    &image[at..end]
-}
-
 // Lookup in an image that passed the header test.
 pub fn lookup_in(image: &[u8], s: Shape, key: &[u8]) -> Lookup
     requires { ⌜ Shaped s (now image) ⌝ }
     ensures { λ r. ⌜ r ≡ lookupIn s (now (image .entry)) (now (key .entry)) ⌝ }
 {
-    if key.len() != s.key_size {
+    if key.len() != s.layout.key_size {
         return refused(INVALID_INPUT);
     }
     let probed = probe_for(image, s, key);
     match probed {
         Probe::Found { slot, buckets } => {
-            let revision = revision_at(image, s, slot);
+            let revision = revision_of(image, s.layout, slot);
             Lookup {
                 answer: DONE,
                 slot: slot as u64,
@@ -117,7 +84,7 @@ pub fn index_part<'a>(image: &'a [u8], o: Options, key: &[u8]) -> &'a [u8]
         Judged::Fit(s) => {
             let found = lookup_in(image, s, key);
             if found.answer == DONE {
-                return slot_index(image, s, found.slot as usize);
+                return index_of(image, s.layout, found.slot as usize);
             }
             &image[0..0]
         }

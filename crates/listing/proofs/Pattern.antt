@@ -33,23 +33,23 @@ module _ (s : Shape) (offset bits : ℕ) (pattern : List ℕ) where
     wrong-length d = rw (ne-eqb bits 0 some, ne-eqb (length pattern) ((bits + 7) / 8) d) refl
 
     module _ (bytes : length pattern ≡ (bits + 7) / 8) where
-      pub wrong-long : s .«key_size» < length pattern → true ≡ patternWrong s offset bits pattern
+      pub wrong-long : s .layout .«key_size» < length pattern → true ≡ patternWrong s offset bits pattern
       unfolding patternWrong
       wrong-long l =
-          rw (ne-eqb bits 0 some, eq-eqb (length pattern) ((bits + 7) / 8) bytes, lt-ltb (s .«key_size») (offset + length pattern) (omega arith)) refl
+          rw (ne-eqb bits 0 some, eq-eqb (length pattern) ((bits + 7) / 8) bytes, lt-ltb (s .layout .«key_size») (offset + length pattern) (omega arith)) refl
 
-      pub wrong-past : length pattern ≤ s .«key_size» → ltb (s .«key_size» - length pattern) offset ≡ patternWrong s offset bits pattern
+      pub wrong-past : length pattern ≤ s .layout .«key_size» → ltb (s .layout .«key_size» - length pattern) offset ≡ patternWrong s offset bits pattern
       unfolding patternWrong
       wrong-past h =
-          rw (ne-eqb bits 0 some, eq-eqb (length pattern) ((bits + 7) / 8) bytes) (past (s .«key_size») (length pattern) offset h)
+          rw (ne-eqb bits 0 some, eq-eqb (length pattern) ((bits + 7) / 8) bytes) (past (s .layout .«key_size») (length pattern) offset h)
 
   -- a pattern that is not wrong fits the keys
-  pub not-wrong : patternWrong s offset bits pattern ≡ false → RightPattern (s .«key_size») offset bits pattern
+  pub not-wrong : patternWrong s offset bits pattern ≡ false → RightPattern (s .layout .«key_size») offset bits pattern
   unfolding patternWrong
   not-wrong e =
       let bytes : Bool = eqb (length pattern) ((bits + 7) / 8) in
-      let n = neither (eqb bits 0 || not bytes) (ltb (s .«key_size») (offset + length pattern)) e in
+      let n = neither (eqb bits 0 || not bytes) (ltb (s .layout .«key_size») (offset + length pattern)) e in
       record {
         bytes = eqb-true (length pattern) ((bits + 7) / 8) (not-false bytes (neither (eqb bits 0) (not bytes) (n .0) .1));
-        inside = ltb-false (s .«key_size») (offset + length pattern) (n .1);
+        inside = ltb-false (s .layout .«key_size») (offset + length pattern) (n .1);
       }

@@ -23,7 +23,7 @@ agrees offset bits pattern key = allTo bits (λ i. eqb (bitAt (drop offset key) 
 -- "7 if bits is 0, the pattern's length differs, or it runs past the key": the pattern has exactly the bytes needed
 unfoldable pub patternWrong : Shape → ℕ → ℕ → List ℕ → Bool
 patternWrong s offset bits pattern =
-    eqb bits 0 || not (eqb (length pattern) ((bits + 7) / 8)) || ltb (s .«key_size») (offset + length pattern)
+    eqb bits 0 || not (eqb (length pattern) ((bits + 7) / 8)) || ltb (s .layout .«key_size») (offset + length pattern)
 
 unfoldable pub matchIn : Shape → List ℕ → ℕ → ℕ → List ℕ → ℕ → ℕ → List ℕ → Outcome
 matchIn s image offset bits pattern skip limit numbers =

@@ -21,7 +21,7 @@ passing (suc n) p = passing n p ++ cond (p n) (n ∷ []) []
 -- "Numbers of live slots (below highwater, meta exactly 1), ascending": those whose key passes a test
 unfoldable pub matches : Shape → List ℕ → (List ℕ → Bool) → List ℕ
 matches s image wanted =
-    passing (s .«slot_highwater») (λ n. eqb (metaOf s image n) 1 && wanted (keyOf s image n))
+    passing (s .«slot_highwater») (λ n. eqb (metaOf (s .layout) image n) 1 && wanted (keyOf (s .layout) image n))
 
 -- "after a skip and up to a limit"
 unfoldable pub chosen : List ℕ → ℕ → ℕ → List ℕ

@@ -31,7 +31,7 @@ Right size (Bits offset bits) pattern = RightPattern size offset bits pattern
 
 -- slot n is live and its key passes a test
 unfoldable pub wantedAt : Shape → List ℕ → (List ℕ → Bool) → ℕ → Bool
-wantedAt s image wanted n = eqb (metaOf s image n) 1 && wanted (keyOf s image n)
+wantedAt s image wanted n = eqb (metaOf (s .layout) image n) 1 && wanted (keyOf (s .layout) image n)
 
 -- the slots below n that are wanted, ascending
 abbrev pub wantedBelow : Shape → List ℕ → (List ℕ → Bool) → ℕ → List ℕ

@@ -32,10 +32,10 @@ fn pattern_wrong(s: Shape, offset: u64, bits: u64, pattern: &[u8]) -> bool
     if (length as u64) != bytes_for(bits) {
         return true;
     }
-    if s.key_size < length {
+    if s.layout.key_size < length {
         return true;
     }
-    ((s.key_size - length) as u64) < offset
+    ((s.layout.key_size - length) as u64) < offset
 }
 
 // The match in an image of this shape.

@@ -13,26 +13,26 @@ use crate::wanted::passes;
 use header::answer::DONE;
 use header::answer::TOO_SHORT;
 use header::shape::Shape;
-use image::probe::key_part;
-use image::probe::meta_at;
+use image::table::key_of;
+use image::table::meta_of;
 
 // Whether slot n is live and its key passes the test.
 fn wanted_at(image: &[u8], s: Shape, wanted: Wanted, pattern: &[u8], n: usize) -> bool
     requires { ⌜ Shaped s (now image) ⌝ }
-    requires { ⌜ Right (s .«key_size») wanted (now pattern) ⌝ }
+    requires { ⌜ Right (s .layout .«key_size») wanted (now pattern) ⌝ }
     requires { ⌜ n < s .«slot_highwater» ⌝ }
     ensures { λ r. ⌜ r ≡ wantedAt s (now (image .entry)) (test wanted (now (pattern .entry))) n ⌝ }
 {
-    if meta_at(image, s, n) != 1 {
+    if meta_of(image, s.layout, n) != 1 {
         return false;
     }
-    passes(key_part(image, s, n), wanted, pattern)
+    passes(key_of(image, s.layout, n), wanted, pattern)
 }
 
 // The first wanted slot from n on, or the highwater.
 fn next_wanted(image: &[u8], s: Shape, wanted: Wanted, pattern: &[u8], n: usize) -> usize
     requires { ⌜ Shaped s (now image) ⌝ }
-    requires { ⌜ Right (s .«key_size») wanted (now pattern) ⌝ }
+    requires { ⌜ Right (s .layout .«key_size») wanted (now pattern) ⌝ }
     requires { ⌜ n ≤ s .«slot_highwater» ⌝ }
     ensures { λ r. ⌜ Next (s .«slot_highwater») (wantedAt s (now (image .entry)) (test wanted (now (pattern .entry)))) n r ⌝ }
 {
@@ -49,7 +49,7 @@ fn next_wanted(image: &[u8], s: Shape, wanted: Wanted, pattern: &[u8], n: usize)
 // How many slots are wanted.
 fn count_wanted(image: &[u8], s: Shape, wanted: Wanted, pattern: &[u8]) -> usize
     requires { ⌜ Shaped s (now image) ⌝ }
-    requires { ⌜ Right (s .«key_size») wanted (now pattern) ⌝ }
+    requires { ⌜ Right (s .layout .«key_size») wanted (now pattern) ⌝ }
     ensures { λ r. ⌜ r ≡ length (wantedBelow s (now (image .entry)) (test wanted (now (pattern .entry))) (s .«slot_highwater»)) ⌝ }
 {
     let mut total = 0;
@@ -64,7 +64,7 @@ fn count_wanted(image: &[u8], s: Shape, wanted: Wanted, pattern: &[u8]) -> usize
 // The slot number after the first `skip` wanted ones.
 fn after_skip(image: &[u8], s: Shape, wanted: Wanted, pattern: &[u8], skip: usize) -> usize
     requires { ⌜ Shaped s (now image) ⌝ }
-    requires { ⌜ Right (s .«key_size») wanted (now pattern) ⌝ }
+    requires { ⌜ Right (s .layout .«key_size») wanted (now pattern) ⌝ }
     requires { ⌜ skip ≤ length (wantedBelow s (now image) (test wanted (now pattern)) (s .«slot_highwater»)) ⌝ }
     ensures { λ r. ⌜ (r ≤ s .«slot_highwater») × (length (wantedBelow s (now (image .entry)) (test wanted (now (pattern .entry))) r) ≡ skip) ⌝ }
 {
@@ -88,7 +88,7 @@ fn write_wanted(
     numbers: &mut [u32],
 )
     requires { ⌜ Shaped s (now image) ⌝ }
-    requires { ⌜ Right (s .«key_size») wanted (now pattern) ⌝ }
+    requires { ⌜ Right (s .layout .«key_size») wanted (now pattern) ⌝ }
     requires { ⌜ skip + count ≤ length (wantedBelow s (now image) (test wanted (now pattern)) (s .«slot_highwater»)) ⌝ }
     requires { ⌜ count ≤ length (now numbers) ⌝ }
     ensures { λ r. ⌜ now (numbers .exit) ≡ take count (drop skip (wantedBelow s (now (image .entry)) (test wanted (now (pattern .entry))) (s .«slot_highwater»))) ++ drop count (now (numbers .entry)) ⌝ }
@@ -127,7 +127,7 @@ pub fn select(
     numbers: &mut [u32],
 ) -> Listed
     requires { ⌜ Shaped s (now image) ⌝ }
-    requires { ⌜ Right (s .«key_size») wanted (now pattern) ⌝ }
+    requires { ⌜ Right (s .layout .«key_size») wanted (now pattern) ⌝ }
     ensures { λ r. ⌜ Lists (list (matches s (now (image .entry)) (test wanted (now (pattern .entry)))) skip limit (now (numbers .entry))) r (now (numbers .exit)) ⌝ }
 {
     let total = count_wanted(image, s, wanted, pattern) as u64;

@@ -9,6 +9,7 @@ use lib.Dec.{eqb, ltb}
 use borrow.Author.Tests.{eqb-false, ltb-false, not-false}
 use Rattle.header.specs.declared.options.Options.{Options}
 use Rattle.header.specs.declared.shape.Shape.{Shape}
+use Rattle.image.specs.Lookup.{isLive}
 use Rattle.header.specs.Answer.{needs-rebuild, invalidated, busy, full, out-of-order, invalid-input}
 use Rattle.header.specs.Fields as F
 use Rattle.header.specs.Fields.{value}
@@ -26,7 +27,7 @@ use Rattle.writing.specs.State.{writingTests, cleanTest, generationTest, userTe
 use Rattle.writing.proofs.Bytes.{Bytes, value-bound}
 use Rattle.writing.proofs.Tests.{Holds, even-passed, state-passed, header-by-state, header-holds}
 use Rattle.batch.specs.Batch.{batchWrong}
-use Rattle.batch.specs.News.{newCount}
+use Rattle.batch.specs.NewKeys.{newCount}
 use Rattle.commit.specs.Commit.{fallsBehind, furtherTests, soundTests, roomTests, commitTests}
 use Rattle.maps.proofs.Formed.{Formed, passes-formed}
 use Rattle.maps.proofs.Grown.{Ready}
@@ -37,7 +38,7 @@ pub record Accepted (o : Options) (image batch : List ℕ) : Type 0 where
   pub role : (o .role ≤ 2) × (o .role ≡ 0 → ⊥)
   pub dirty : value image F.state ≡ DIRTY
   pub more : value image F.generation + 2 < 2 ^ 64
-  pub right : batchWrong (shapeOf image) batch ≡ false
+  pub right : batchWrong (shapeOf image .layout) batch ≡ false
   pub ready : Ready (shapeOf image) image batch
 
 -- test 1: "role above 2"
@@ -94,17 +95,17 @@ module _ (o : Options) (image batch : List ℕ) (accepted : firstOf (commitTests
 
   -- the commit's own tests
   record Further : Type 0 where
-    right : batchWrong s batch ≡ false
+    right : batchWrong (s .layout) batch ≡ false
     passed : passes s image ≡ true
-    room : newCount s image batch ≤ s .«slot_capacity» - s .«slot_highwater»
+    room : newCount (s .layout) (isLive s image) batch ≤ s .layout .«slot_capacity» - s .«slot_highwater»
     ahead : fallsBehind s image batch ≡ false
 
   further : Further
   unfolding furtherTests soundTests roomTests
   further =
-      let wrong : Bool = batchWrong s batch in
+      let wrong : Bool = batchWrong (s .layout) batch in
       let fails-check : Bool = not (passes s image) in
-      let beyond : Bool = ltb (s .«slot_capacity» - s .«slot_highwater») (newCount s image batch) in
+      let beyond : Bool = ltb (s .layout .«slot_capacity» - s .«slot_highwater») (newCount (s .layout) (isLive s image) batch) in
       let behind : Bool = fallsBehind s image batch in
       let p₁ = first-none ((wrong, invalid-input) ∷ []) _ tt (both .1) in
       let p₂ = first-none ((fails-check, needs-rebuild) ∷ []) _ tt (p₁ .1) in
@@ -119,10 +120,10 @@ module _ (o : Options) (image batch : List ℕ) (accepted : firstOf (commitTests
   fit : Shaped s image
   fit = fit-shaped o image s (judged-fit o image (roles .0))
 
-  formed : Formed (s .ordered) (tableOf s image)
+  formed : Formed (s .layout .ordered) (tableOf s image)
   unfolding passes tableOf
   formed =
-      passes-formed (tableOf s image) (s .«live_count») (s .«bucket_tombstones») (further .passed) (fit .counters) (omega (arith, fit .highwater, fit .room))
+      passes-formed (tableOf s image) (s .«live_count») (s .«bucket_tombstones») (further .passed) (fit .counters) (omega (arith, fit .highwater, fit .laid .room))
 
   is-dirty : value image F.state ≡ DIRTY
   is-dirty =

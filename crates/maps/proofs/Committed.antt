@@ -12,6 +12,7 @@ use lib.ListN.{length}
 use Rattle.numbers.specs.Bytes.{part}
 use Rattle.header.specs.declared.options.Options.{Options}
 use Rattle.header.specs.declared.shape.Shape.{Shape}
+use Rattle.image.specs.Lookup.{isLive}
 use Rattle.header.specs.Fields as F
 use Rattle.header.specs.Fields.{value}
 use Rattle.header.specs.FirstOf.{firstOf}
@@ -27,8 +28,9 @@ use Rattle.slots.proofs.Table.Around.{around-bytes, around-shape, SameSlot, sam
 use Rattle.slots.proofs.Table.Appended.{Holds, holds-then}
 use Rattle.slots.proofs.Table.Counted as write
 use Rattle.batch.specs.Batch.{recordCount, recordAt}
-use Rattle.batch.specs.News.{newCount, newAt}
-use Rattle.applying.specs.Apply.{withCounters, withSlots, afterLive, afterNew, tidied, recounted, committed}
+use Rattle.batch.specs.NewKeys.{newCount, newAt}
+use Rattle.header.specs.Counters.{withCounters, withSlots}
+use Rattle.applying.specs.Apply.{afterLive, afterNew, tidied, recounted, committed}
 use Rattle.commit.specs.Commit.{commitTests, commitOf}
 use Rattle.maps.proofs.Live.{Spared, Kept, live-kept}
 use Rattle.maps.proofs.Grown.{Grown, new-grown}
@@ -41,38 +43,38 @@ use Rattle.maps.proofs.Accepted.{Accepted, accepted-facts}
 unfoldable pub shapeAfter : List ℕ → List ℕ → Shape
 shapeAfter image batch =
     let s = shapeOf image in
-    let n = newCount s image batch in
+    let n = newCount (s .layout) (isLive s image) batch in
     let given = withSlots s (s .«slot_highwater» + n) in
-    write.recounted s (recounted given (tidied given (afterNew s image batch n)))
+    write.countedShape s (recounted given (tidied given (afterNew s image batch n)))
 
 -- What a commit leaves of an image.
 pub record Committed (o : Options) (image batch image′ : List ℕ) : Type 0 where
   pub size : length image′ ≡ length image
   pub bytes : Bytes image′
-  pub behind : (a n : ℕ) → shapeOf image .«buckets_offset» + 16 * shapeOf image .«bucket_count» ≤ a → part image′ a n ≡ part image a n
+  pub behind : (a n : ℕ) → shapeOf image .layout .«buckets_offset» + 16 * shapeOf image .layout .«bucket_count» ≤ a → part image′ a n ≡ part image a n
   -- the header test and the full check pass, for this caller and, the header test, beside it
   pub whole : Whole o image′
   pub header : (role : ℕ) → role ≤ 2 → (role ≡ 0 → ⊥) → headerTest (withRole o role) image′ ≡ 0
   pub passes : passes (shapeOf image′) image′ ≡ true
   pub shape : shapeOf image′ ≡ shapeAfter image batch
   pub user : userFields image′ ≡ userFields image
-  pub few : 4 * shapeOf image′ .«bucket_tombstones» ≤ shapeOf image .«bucket_count»
+  pub few : 4 * shapeOf image′ .«bucket_tombstones» ≤ shapeOf image .layout .«bucket_count»
   -- an old slot keeps its key, and is live if it was and its key is not deleted
-  pub keys : (n : ℕ) → n < shapeOf image .«slot_highwater» → keyOf (shapeOf image) image′ n ≡ keyOf (shapeOf image) image n
+  pub keys : (n : ℕ) → n < shapeOf image .«slot_highwater» → keyOf (shapeOf image .layout) image′ n ≡ keyOf (shapeOf image .layout) image n
   pub lives : (n : ℕ) → n < shapeOf image .«slot_highwater»
-      → (metaOf (shapeOf image) image′ n ≡ 1)
-      ↔ ((metaOf (shapeOf image) image n ≡ 1) × Spared (shapeOf image) batch (recordCount (shapeOf image) batch) (keyOf (shapeOf image) image n))
+      → (metaOf (shapeOf image .layout) image′ n ≡ 1)
+      ↔ ((metaOf (shapeOf image .layout) image n ≡ 1) × Spared (shapeOf image) batch (recordCount (shapeOf image .layout) batch) (keyOf (shapeOf image .layout) image n))
   -- a new slot holds its record
-  pub new : (q : ℕ) → q < newCount (shapeOf image) image batch
-      → Holds (shapeOf image) image′ (shapeOf image .«slot_highwater» + q)
-      (recordAt (shapeOf image) batch (newAt (shapeOf image) image batch q))
+  pub new : (q : ℕ) → q < newCount (shapeOf image .layout) (isLive (shapeOf image) image) batch
+      → Holds (shapeOf image .layout) image′ (shapeOf image .«slot_highwater» + q)
+      (recordAt (shapeOf image .layout) batch (newAt (shapeOf image .layout) (isLive (shapeOf image) image) batch q))
 
 module _ (o : Options) (image batch : List ℕ) (lent : Bytes image) (lent-batch : Bytes batch) (facts : Accepted o image batch) where
   abbrev s : Shape
   s = shapeOf image
 
   abbrev count : ℕ
-  count = newCount s image batch
+  count = newCount (s .layout) (isLive s image) batch
 
   abbrev n : ℕ
   n = s .«slot_highwater» + count
@@ -86,8 +88,8 @@ module _ (o : Options) (image batch : List ℕ) (lent : Bytes image) (lent-batch
   has-grown : Grown s image batch count grown
   has-grown = new-grown s image batch (facts .ready) count (le-refl _)
 
-  kept : Kept s image batch (recordCount s batch) (afterLive s image batch (recordCount s batch))
-  kept = live-kept s image batch (facts .ready .fit) (facts .ready .formed) (recordCount s batch) (le-refl _)
+  kept : Kept s image batch (recordCount (s .layout) batch) (afterLive s image batch (recordCount (s .layout) batch))
+  kept = live-kept s image batch (facts .ready .fit) (facts .ready .formed) (recordCount (s .layout) batch) (le-refl _)
 
   head : shapeOf grown ≡ s
   head = around-shape (has-grown .around)
@@ -114,19 +116,19 @@ module _ (o : Options) (image batch : List ℕ) (lent : Bytes image) (lent-batch
   unfolding committed shapeAfter
   shape′ = settled-shape s n grown head (has-grown .fit) (has-grown .formed) more
 
-  few′ : 4 * shapeOf image′ .«bucket_tombstones» ≤ s .«bucket_count»
+  few′ : 4 * shapeOf image′ .«bucket_tombstones» ≤ s .layout .«bucket_count»
   unfolding shapeAfter recounted withSlots withCounters
   few′ = rw shape′ (is-tidy s n grown head (has-grown .fit) (has-grown .formed) .few)
 
   -- a slot reads as it did before the end
-  slot′ : (m : ℕ) → m < s .«slot_capacity» → SameSlot s grown image′ m
+  slot′ : (m : ℕ) → m < s .layout .«slot_capacity» → SameSlot (s .layout) grown image′ m
   unfolding committed
   slot′ = settled-slot s n grown head (has-grown .fit) (has-grown .formed)
 
-  old′ : (m : ℕ) → m < s .«slot_highwater» → SameSlot s (afterLive s image batch (recordCount s batch)) image′ m
+  old′ : (m : ℕ) → m < s .«slot_highwater» → SameSlot (s .layout) (afterLive s image batch (recordCount (s .layout) batch)) image′ m
   old′ m l = same-slot-then (has-grown .old m l) (slot′ m (omega (arith, facts .ready .fit .highwater)))
 
-  new′ : (q : ℕ) → q < count → Holds s image′ (s .«slot_highwater» + q) (recordAt s batch (newAt s image batch q))
+  new′ : (q : ℕ) → q < count → Holds (s .layout) image′ (s .«slot_highwater» + q) (recordAt (s .layout) batch (newAt (s .layout) (isLive s image) batch q))
   new′ q l = holds-then (has-grown .new q l) (slot′ (s .«slot_highwater» + q) (omega (arith, facts .ready .room)))
 
   pub committed-image : Committed o image batch image′

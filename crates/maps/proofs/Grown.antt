@@ -20,19 +20,21 @@ use Rattle.probing.proofs.Keys.{not-both, not-true-false, both-and}
 use Rattle.probing.proofs.Reading.{absent-iff}
 use Rattle.header.specs.declared.shape.Shape.{Shape}
 use Rattle.header.specs.Shaped.{Shaped}
-use Rattle.image.specs.Table.{slotAt, keyAt as keyPlace, revisionAt, indexAt, metaOf, keyOf, revisionOf, indexOf, tableOf}
-use Rattle.image.specs.Lookup.{probeOf}
-use Rattle.slots.specs.Slots.{appended, grown}
+use Rattle.image.specs.Table.{slotAt, keyAt, revisionAt, indexAt, metaOf, keyOf, revisionOf, indexOf, tableOf}
+use Rattle.image.specs.Lookup.{probeOf, isLive}
+use Rattle.slots.specs.Slots.{appended}
 use Rattle.slots.proofs.Table.Around.{Around, around-then, around-shaped, SameSlot, same-slot-self, same-slot-then}
-use Rattle.slots.proofs.Table.Appended.{Holds, holds-then, grown-shaped, appended-around, appended-other, appended-new, appended-table}
-use Rattle.batch.specs.Batch.{recordCount, recordAt, metaIn, keyIn, keyAt}
-use Rattle.batch.specs.News.{isNew, newCount, newAt}
-use Rattle.applying.specs.Apply.{withCounters, withSlots, afterLive, afterNew}
+use Rattle.slots.proofs.Table.Appended.{Holds, holds-then, grown, grown-shaped, appended-around, appended-other, appended-new, appended-table}
+use Rattle.batch.specs.Batch.{recordCount, recordAt, metaIn, keyIn, recordKey}
+use Rattle.batch.specs.NewKeys.{isNew, newCount, newAt}
+use Rattle.header.specs.Counters.{withCounters, withSlots}
+use Rattle.applying.specs.Apply.{afterLive, afterNew}
 use Rattle.commit.specs.Commit.{fallsBehind}
 use Rattle.batch.proofs.Records.{record-length}
 use Rattle.maps.proofs.Formed.{Formed, formed-clip, clip-formed, inserted-formed}
 use Rattle.maps.proofs.Live.{Kept, live-kept}
-use Rattle.maps.proofs.New.{is-new, new-at, keys-differ, keys-rise}
+use Rattle.maps.proofs.MapSlots.{not-live}
+use Rattle.batch.proofs.NewRanks.{is-new, new-at, keys-differ, keys-rise}
 
 -- as many slots as it has, and one slot more
 pub as-many : (s : Shape) → withSlots s (s .«slot_highwater» + 0) ≡ s
@@ -40,7 +42,7 @@ unfolding withSlots withCounters
 as-many s = ap (withSlots s) (add-zero (s .«slot_highwater»))
 
 pub slot-more : (s : Shape) (r : ℕ) → withSlots s (s .«slot_highwater» + suc r) ≡ grown (withSlots s (s .«slot_highwater» + r))
-unfolding withSlots withCounters grown
+unfolding withSlots withCounters
 slot-more s r =
     let e : s .«slot_highwater» + suc r ≡ s .«slot_highwater» + r + 1 = omega arith in
     ap (withSlots s) e
@@ -48,28 +50,28 @@ slot-more s r =
 -- A batch may be committed to an image: the table is well formed, and the new keys have room and do not fall behind.
 pub record Ready (s : Shape) (image batch : List ℕ) : Type 0 where
   pub fit : Shaped s image
-  pub formed : Formed (s .ordered) (tableOf s image)
-  pub room : s .«slot_highwater» + newCount s image batch ≤ s .«slot_capacity»
+  pub formed : Formed (s .layout .ordered) (tableOf s image)
+  pub room : s .«slot_highwater» + newCount (s .layout) (isLive s image) batch ≤ s .layout .«slot_capacity»
   pub ahead : fallsBehind s image batch ≡ false
 
 -- What the new keys of ranks below r leave, by slots given out.
 pub record Grown (s : Shape) (image batch : List ℕ) (r : ℕ) (image′ : List ℕ) : Type 0 where
-  pub around : Around s image image′
+  pub around : Around (s .layout) image image′
   pub fit : Shaped (withSlots s (s .«slot_highwater» + r)) image′
-  pub formed : Formed (s .ordered) (tableOf (withSlots s (s .«slot_highwater» + r)) image′)
+  pub formed : Formed (s .layout .ordered) (tableOf (withSlots s (s .«slot_highwater» + r)) image′)
   -- old slots are as the records left them
-  pub old : (n : ℕ) → n < s .«slot_highwater» → SameSlot s (afterLive s image batch (recordCount s batch)) image′ n
+  pub old : (n : ℕ) → n < s .«slot_highwater» → SameSlot (s .layout) (afterLive s image batch (recordCount (s .layout) batch)) image′ n
   -- a new slot holds its record
-  pub new : (q : ℕ) → q < r → Holds s image′ (s .«slot_highwater» + q) (recordAt s batch (newAt s image batch q))
+  pub new : (q : ℕ) → q < r → Holds (s .layout) image′ (s .«slot_highwater» + q) (recordAt (s .layout) batch (newAt (s .layout) (isLive s image) batch q))
 
 -- if ordered, no new key is below that of the last slot
-not-behind : (s : Shape) (image batch : List ℕ) → fallsBehind s image batch ≡ false → s .ordered ≡ true → 0 < s .«slot_highwater»
-    → (i : ℕ) → i < recordCount s batch → isNew s image batch i ≡ true → below (keyAt s batch i) (keyOf s image (s .«slot_highwater» - 1)) ≡ false
+not-behind : (s : Shape) (image batch : List ℕ) → fallsBehind s image batch ≡ false → s .layout .ordered ≡ true → 0 < s .«slot_highwater»
+    → (i : ℕ) → i < recordCount (s .layout) batch → isNew (s .layout) (isLive s image) batch i ≡ true → below (recordKey (s .layout) batch i) (keyOf (s .layout) image (s .«slot_highwater» - 1)) ≡ false
 unfolding fallsBehind
 not-behind s image batch ahead ordered some i l new =
-    not-true-false _ (λ b. not-both (both-and new b) (not-true _ (all-at (recordCount s batch) _ every i l)))
+    not-true-false _ (λ b. not-both (both-and new b) (not-true _ (all-at (recordCount (s .layout) batch) _ every i l)))
   where
-    every : allTo (recordCount s batch) (λ i. not (isNew s image batch i && below (keyAt s batch i) (keyOf s image (s .«slot_highwater» - 1)))) ≡ true
+    every : allTo (recordCount (s .layout) batch) (λ i. not (isNew (s .layout) (isLive s image) batch i && below (recordKey (s .layout) batch i) (keyOf (s .layout) image (s .«slot_highwater» - 1)))) ≡ true
     every = go _ _ (both-and ordered (lt-ltb 0 (s .«slot_highwater») some)) ahead
       where
         go : (a b : Bool) → a ≡ true → a && not b ≡ false → b ≡ true
@@ -96,107 +98,101 @@ module _ (t : Table) (k : List ℕ) where
 
 module _ (s : Shape) (image batch : List ℕ) (ready : Ready s image batch) where
   abbrev live : List ℕ
-  live = afterLive s image batch (recordCount s batch)
+  live = afterLive s image batch (recordCount (s .layout) batch)
 
-  kept : Kept s image batch (recordCount s batch) live
-  kept = live-kept s image batch (ready .fit) (ready .formed) (recordCount s batch) (le-refl _)
+  kept : Kept s image batch (recordCount (s .layout) batch) live
+  kept = live-kept s image batch (ready .fit) (ready .formed) (recordCount (s .layout) batch) (le-refl _)
 
-  module _ (r : ℕ) (l : r < newCount s image batch) (before : List ℕ) (so : Grown s image batch r before) where
+  module _ (r : ℕ) (l : r < newCount (s .layout) (isLive s image) batch) (before : List ℕ) (so : Grown s image batch r before) where
     abbrev t : Shape
     t = withSlots s (s .«slot_highwater» + r)
 
     abbrev i : ℕ
-    i = newAt s image batch r
+    i = newAt (s .layout) (isLive s image) batch r
 
     abbrev bytes : List ℕ
-    bytes = recordAt s batch i
+    bytes = recordAt (s .layout) batch i
 
     abbrev after : List ℕ
     after = appended t before bytes
 
-    room : s .«slot_highwater» + r < s .«slot_capacity»
+    room : s .«slot_highwater» + r < s .layout .«slot_capacity»
     room = omega (arith, ready .room)
 
-    size : length bytes ≡ s .«slot_size»
-    size = record-length s batch i (new-at s image batch r l .inside)
+    size : length bytes ≡ s .layout .«slot_size»
+    size = record-length (s .layout) batch i (new-at (s .layout) (isLive s image) batch r l .inside)
 
     -- no live slot has the key
-    old-none : (m : ℕ) → m < s .«slot_highwater» → metaOf s before m ≡ 1 → keyOf s before m ≡ keyAt s batch i → ⊥
+    old-none : (m : ℕ) → m < s .«slot_highwater» → metaOf (s .layout) before m ≡ 1 → keyOf (s .layout) before m ≡ recordKey (s .layout) batch i → ⊥
     unfolding tableOf probeOf
     old-none m lm alive keyed =
         let same = so .old m lm in
         let was = kept .lives m lm .0 (sym (same .meta) ∙ alive) in
-        let absent = is-new s image batch i (new-at s image batch r l .new) .absent in
-        absent-iff (tableOf s image) (ready .formed .sound) (keyAt s batch i) .0 absent m lm (was .0)
+        let absent = not-live s image (ready .formed .sound) (recordKey (s .layout) batch i) (is-new (s .layout) (isLive s image) batch i (new-at (s .layout) (isLive s image) batch r l .new) .absent) in
+        absent-iff (tableOf s image) (ready .formed .sound) (recordKey (s .layout) batch i) .0 absent m lm (was .0)
         (sym (kept .keys m (omega (arith, ready .fit .highwater))) ∙ sym (same .key) ∙ keyed)
 
-    new-none : (q : ℕ) → q < r → keyOf s before (s .«slot_highwater» + q) ≡ keyAt s batch i → ⊥
-    unfolding keyAt keyIn
+    new-none : (q : ℕ) → q < r → keyOf (s .layout) before (s .«slot_highwater» + q) ≡ recordKey (s .layout) batch i → ⊥
+    unfolding recordKey keyIn
     new-none q lq keyed =
-        let same = keys-differ s image batch q r (omega arith) l (sym (so .new q lq .key) ∙ keyed) in
+        let same = keys-differ (s .layout) (isLive s image) batch q r (omega arith) l (sym (so .new q lq .key) ∙ keyed) in
         omega arith
 
-    none : (m : ℕ) → m < s .«slot_highwater» + r → metaOf s before m ≡ 1 → keyOf s before m ≡ keyAt s batch i → ⊥
+    none : (m : ℕ) → m < s .«slot_highwater» + r → metaOf (s .layout) before m ≡ 1 → keyOf (s .layout) before m ≡ recordKey (s .layout) batch i → ⊥
     none m lm alive keyed = go (decLt m (s .«slot_highwater»))
       where
         go : Dec (m < s .«slot_highwater») → ⊥
         go (yes old) = old-none m old alive keyed
         go (no new) =
             let at : s .«slot_highwater» + (m - s .«slot_highwater») ≡ m = omega arith in
-            new-none (m - s .«slot_highwater») (omega arith) (ap (keyOf s before) at ∙ keyed)
+            new-none (m - s .«slot_highwater») (omega arith) (ap (keyOf (s .layout) before) at ∙ keyed)
 
     -- if ordered, the key is not below the last one
-    last : s .ordered ≡ true → (s .«slot_highwater» + r ≡ 0) ⊎ (below (keyAt s batch i) (keyOf s before (s .«slot_highwater» + r - 1)) ≡ false)
-    unfolding keyAt keyIn
+    last : s .layout .ordered ≡ true → (s .«slot_highwater» + r ≡ 0) ⊎ (below (recordKey (s .layout) batch i) (keyOf (s .layout) before (s .«slot_highwater» + r - 1)) ≡ false)
+    unfolding recordKey keyIn
     last ordered = go (ℕ-discrete r 0) (ℕ-discrete (s .«slot_highwater») 0)
       where
-        by-key : (m : ℕ) (k : List ℕ) → s .«slot_highwater» + r - 1 ≡ m → keyOf s before m ≡ k → below (keyAt s batch i) k ≡ false
-            → below (keyAt s batch i) (keyOf s before (s .«slot_highwater» + r - 1)) ≡ false
-        by-key m k at same b = ap (λ (n : ℕ). below (keyAt s batch i) (keyOf s before n)) at ∙ ap (below (keyAt s batch i)) same ∙ b
+        by-key : (m : ℕ) (k : List ℕ) → s .«slot_highwater» + r - 1 ≡ m → keyOf (s .layout) before m ≡ k → below (recordKey (s .layout) batch i) k ≡ false
+            → below (recordKey (s .layout) batch i) (keyOf (s .layout) before (s .«slot_highwater» + r - 1)) ≡ false
+        by-key m k at same b = ap (λ (n : ℕ). below (recordKey (s .layout) batch i) (keyOf (s .layout) before n)) at ∙ ap (below (recordKey (s .layout) batch i)) same ∙ b
 
         go : Dec (r ≡ 0) → Dec (s .«slot_highwater» ≡ 0)
-            → (s .«slot_highwater» + r ≡ 0) ⊎ (below (keyAt s batch i) (keyOf s before (s .«slot_highwater» + r - 1)) ≡ false)
+            → (s .«slot_highwater» + r ≡ 0) ⊎ (below (recordKey (s .layout) batch i) (keyOf (s .layout) before (s .«slot_highwater» + r - 1)) ≡ false)
         go (yes first) (yes bare) = inl (omega arith)
         go (yes first) (no some) =
             let m = s .«slot_highwater» - 1 in
-            let new = new-at s image batch r l in
-            inr (by-key m (keyOf s image m) (omega arith) (so .old m (omega arith) .key ∙ kept .keys m (omega (arith, ready .fit .highwater)))
+            let new = new-at (s .layout) (isLive s image) batch r l in
+            inr (by-key m (keyOf (s .layout) image m) (omega arith) (so .old m (omega arith) .key ∙ kept .keys m (omega (arith, ready .fit .highwater)))
             (not-behind s image batch (ready .ahead) ordered (omega arith) i (new .inside) (new .new)))
         go (no later) z =
             let q = r - 1 in
-            inr (by-key (s .«slot_highwater» + q) (keyAt s batch (newAt s image batch q)) (omega arith) (so .new q (omega arith) .key)
-            (keys-rise s image batch q r (omega arith) l ordered (omega arith)))
+            inr (by-key (s .«slot_highwater» + q) (recordKey (s .layout) batch (newAt (s .layout) (isLive s image) batch q)) (omega arith) (so .new q (omega arith) .key)
+            (keys-rise (s .layout) (isLive s image) batch q r (omega arith) l ordered (omega arith)))
 
-    grown-table : clip (tableOf (grown t) after) ≡ inserted (clip (tableOf t before)) (keyAt s batch i)
-    unfolding withSlots withCounters keyAt keyIn metaIn
-    grown-table = appended-table t before (so .fit) room bytes size (is-new s image batch i (new-at s image batch r l .new) .meta)
+    grown-table : clip (tableOf (grown t) after) ≡ inserted (clip (tableOf t before)) (recordKey (s .layout) batch i)
+    unfolding withSlots withCounters recordKey keyIn metaIn
+    grown-table = appended-table t before (so .fit) room bytes size (is-new (s .layout) (isLive s image) batch i (new-at (s .layout) (isLive s image) batch r l .new) .meta)
 
-    grown-formed : Formed (s .ordered) (tableOf (grown t) after)
-    unfolding tableOf withSlots withCounters keyOf metaOf keyPlace slotAt clip
+    grown-formed : Formed (s .layout .ordered) (tableOf (grown t) after)
+    unfolding tableOf withSlots withCounters clip
     grown-formed =
-        clip-formed _ (subst (Formed (s .ordered)) (sym grown-table)
-        (inserted-formed (clip (tableOf t before)) (formed-clip _ (so .formed)) (keyAt s batch i)
-        (clip-none (tableOf t before) (keyAt s batch i) none) (omega (arith, room, ready .fit .room))
-        (λ o. clip-last (tableOf t before) (keyAt s batch i) (last o))))
+        clip-formed _ (subst (Formed (s .layout .ordered)) (sym grown-table)
+        (inserted-formed (clip (tableOf t before)) (formed-clip _ (so .formed)) (recordKey (s .layout) batch i)
+        (clip-none (tableOf t before) (recordKey (s .layout) batch i) none) (omega (arith, room, ready .fit .laid .room))
+        (λ o. clip-last (tableOf t before) (recordKey (s .layout) batch i) (last o))))
 
-    -- slots read the same under either shape
-    grown-other : (m : ℕ) → m < s .«slot_highwater» + r → SameSlot s before after m
-    unfolding withSlots withCounters metaOf keyOf revisionOf indexOf keyPlace revisionAt indexAt slotAt
-    grown-other m lm =
-        let same = appended-other t before (so .fit) room bytes size m (omega (arith, room)) (λ e. absurd (omega arith)) in
-        record { meta = same .meta; key = same .key; revision = same .revision; index = same .index }
-
-    grown-new : Holds s after (s .«slot_highwater» + r) bytes
-    unfolding withSlots withCounters metaOf keyOf revisionOf indexOf keyPlace revisionAt indexAt slotAt
-    grown-new =
-        let new = appended-new t before (so .fit) room bytes size in
-        record { meta = new .meta; key = new .key; revision = new .revision; index = new .index }
-
-    grown-around : Around s before after
+    -- slots lie where they lay
+    grown-other : (m : ℕ) → m < s .«slot_highwater» + r → SameSlot (s .layout) before after m
     unfolding withSlots withCounters
-    grown-around =
-        let around = appended-around t before (so .fit) room bytes size in
-        record { size = around .size; header = around .header; behind = around .behind }
+    grown-other m lm = appended-other t before (so .fit) room bytes size m (omega (arith, room)) (λ e. absurd (omega arith))
+
+    grown-new : Holds (s .layout) after (s .«slot_highwater» + r) bytes
+    unfolding withSlots withCounters
+    grown-new = appended-new t before (so .fit) room bytes size
+
+    grown-around : Around (s .layout) before after
+    unfolding withSlots withCounters
+    grown-around = appended-around t before (so .fit) room bytes size
 
     grown-fit : Shaped (grown t) after
     unfolding withSlots withCounters
@@ -209,12 +205,12 @@ module _ (s : Shape) (image batch : List ℕ) (ready : Ready s image batch) wher
           fit = rw (slot-more s r) grown-fit;
           formed = rw (slot-more s r) grown-formed;
           old = λ n ln. same-slot-then (so .old n ln) (grown-other n (omega arith));
-          new = one-more {P = λ q. Holds s after (s .«slot_highwater» + q) (recordAt s batch (newAt s image batch q))} r
+          new = one-more {P = λ q. Holds (s .layout) after (s .«slot_highwater» + q) (recordAt (s .layout) batch (newAt (s .layout) (isLive s image) batch q))} r
               (λ q lq. holds-then (so .new q lq) (grown-other (s .«slot_highwater» + q) (omega arith))) grown-new;
         }
 
   -- after the new keys of ranks below r
-  pub new-grown : (r : ℕ) → r ≤ newCount s image batch → Grown s image batch r (afterNew s image batch r)
+  pub new-grown : (r : ℕ) → r ≤ newCount (s .layout) (isLive s image) batch → Grown s image batch r (afterNew s image batch r)
   unfolding afterNew
   new-grown zero l =
       record {

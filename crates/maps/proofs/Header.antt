@@ -15,7 +15,7 @@ use Rattle.header.specs.Fields as F
 use Rattle.header.specs.Fields.{bytesIn, value}
 use Rattle.header.specs.FirstOf.{firstOf}
 use Rattle.header.specs.State.{DIRTY, withRole}
-use Rattle.header.specs.HeaderTest.{test2, test3, test4, test5, test6, test8, test9, test10, test11, headerTest, shapeOf}
+use Rattle.header.specs.HeaderTest.{test2, test3, test4, test5, test6, test8, test9, test10, test11, headerTest, layoutOf, shapeOf}
 use Rattle.header.specs.Open.{userFields}
 use Rattle.header.specs.Shaped.{Shaped}
 use Rattle.image.specs.Table.{tableOf}
@@ -27,14 +27,15 @@ use Rattle.writing.proofs.Kept.{any-role}
 use Rattle.writing.proofs.UserLaws.{same-user}
 use Rattle.slots.proofs.Table.Around.{Around, around-bytes}
 use Rattle.slots.proofs.Table.Counted as write
-use Rattle.applying.specs.Apply.{withCounters, withSlots, tidied, recounted, settled}
+use Rattle.header.specs.Counters.{withCounters, withSlots}
+use Rattle.applying.specs.Apply.{tidied, recounted, settled}
 use Rattle.maps.proofs.Formed.{Formed}
 use Rattle.maps.proofs.Settled.{is-tidy, recounted-fit, settled-length}
 
 -- The image began as another, whose header it still has, and n slots are given out.
-module _ (o : Options) (start : List ℕ) (holds : Holds o start) (n : ℕ) (image : List ℕ) (around : Around (shapeOf start) start image)
+module _ (o : Options) (start : List ℕ) (holds : Holds o start) (n : ℕ) (image : List ℕ) (around : Around (shapeOf start .layout) start image)
     (head : shapeOf image ≡ shapeOf start) (fit : Shaped (withSlots (shapeOf start) n) image)
-    (formed : Formed (shapeOf start .ordered) (tableOf (withSlots (shapeOf start) n) image)) where
+    (formed : Formed (shapeOf start .layout .ordered) (tableOf (withSlots (shapeOf start) n) image)) where
   abbrev s : Shape
   s = shapeOf start
 
@@ -119,7 +120,7 @@ module _ (o : Options) (start : List ℕ) (holds : Holds o start) (n : ℕ) (ima
     fifth′ = rw (eq-eqb _ _ (write.counted-crc new tidy is-fit bytes)) refl
 
     capacity : new .«slot_highwater» ≤ value start F.slot-capacity
-    unfolding recounted withSlots withCounters shapeOf
+    unfolding recounted withSlots withCounters shapeOf layoutOf
     capacity = is-fit .highwater
 
     eleventh′ : firstOf (test11 after) ≡ 0

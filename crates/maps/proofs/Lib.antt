@@ -1,8 +1,5 @@
-pub mod Deciding
 pub mod Formed
 pub mod Live
-pub mod Counts
-pub mod New
 pub mod Grown
 pub mod Settled
 pub mod Lent

@@ -1,13 +1,14 @@
 -- What the records do to live keys: a put rewrites, a delete takes the key's slot out of the index, and all else stays.
 -- Assumes nothing.
 use Prim.Native.Nat.{ℕ, zero, suc, _+_, _-_, _%_, _≤_, _<_}
-use mathlib.Core.Bool.{Bool, true, false, cond}
+use mathlib.Core.Bool.{Bool, true, false, cond, not, _&&_}
 use mathlib.Core.Path.{_≡_, refl, sym, ap, subst, _∙_}
 use mathlib.Core.Logic.{_↔_}
 use mathlib.Core.List.{List}
 use native.Mathlib.Nat.{mod-lt}
 use native.Mathlib.Omega.{arith}
 use lib.Dec.{eqb}
+use borrow.Author.Tests.{eq-eqb}
 use Rattle.digests.specs.Fnv.{fnv1a64}
 use Rattle.probing.specs.Probe.{Probed, found, absent, broken, probe}
 use Rattle.probing.specs.Change.{deleted}
@@ -19,21 +20,23 @@ use Rattle.probing.proofs.Clip.{probe-clip}
 use Rattle.header.specs.declared.shape.Shape.{Shape}
 use Rattle.header.specs.Shaped.{Shaped}
 use Rattle.image.specs.Table.{metaOf, keyOf, tableOf}
-use Rattle.image.specs.Lookup.{probeOf}
+use Rattle.image.specs.Lookup.{probeOf, isLive}
 use Rattle.slots.specs.Slots.{rewritten, removed}
 use Rattle.slots.proofs.Table.Around.{Around, around-self, around-then, around-shaped}
 use Rattle.slots.proofs.Table.Rewritten.{rewritten-around, rewritten-meta, rewritten-key, rewritten-table}
 use Rattle.slots.proofs.Table.Removed.{removed-around, removed-meta, removed-other, removed-body, removed-table}
-use Rattle.batch.specs.Batch.{recordCount, recordAt, metaIn, keyAt, decides}
-use Rattle.applying.specs.Apply.{onLive, acted, afterLive}
+use Rattle.batch.specs.Batch.{recordCount, recordAt, metaIn, recordKey, decides}
+use Rattle.batch.specs.NewKeys.{isNew}
+use Rattle.applying.specs.Apply.{onLive, acted, actedTo, afterLive}
 use Rattle.batch.proofs.Records.{record-length}
+use Rattle.batch.proofs.NewRanks.{is-new}
 use Rattle.maps.proofs.Formed.{Formed, formed-clip, clip-formed, deleted-formed}
 
 -- Record i decides and deletes key k.
 pub record Deletes (s : Shape) (batch : List ℕ) (k : List ℕ) (i : ℕ) : Type 0 where
-  pub decides : decides s batch i ≡ true
-  pub meta : eqb (metaIn (recordAt s batch i)) 1 ≡ false
-  pub key : keyAt s batch i ≡ k
+  pub decides : decides (s .layout) batch i ≡ true
+  pub meta : eqb (metaIn (recordAt (s .layout) batch i)) 1 ≡ false
+  pub key : recordKey (s .layout) batch i ≡ k
 
 -- no record below i deletes key k
 abbrev pub Spared : Shape → List ℕ → ℕ → List ℕ → Type 0
@@ -41,12 +44,12 @@ Spared s batch i k = (j : ℕ) → j < i → Deletes s batch k j → ⊥
 
 -- What the records below i leave.
 pub record Kept (s : Shape) (image batch : List ℕ) (i : ℕ) (image′ : List ℕ) : Type 0 where
-  pub around : Around s image image′
+  pub around : Around (s .layout) image image′
   pub fit : Shaped s image′
-  pub formed : Formed (s .ordered) (tableOf s image′)
-  pub keys : (n : ℕ) → n < s .«slot_capacity» → keyOf s image′ n ≡ keyOf s image n
+  pub formed : Formed (s .layout .ordered) (tableOf s image′)
+  pub keys : (n : ℕ) → n < s .layout .«slot_capacity» → keyOf (s .layout) image′ n ≡ keyOf (s .layout) image n
   -- a slot is live if it was and its key is not deleted
-  pub lives : (n : ℕ) → n < s .«slot_highwater» → (metaOf s image′ n ≡ 1) ↔ ((metaOf s image n ≡ 1) × Spared s batch i (keyOf s image n))
+  pub lives : (n : ℕ) → n < s .«slot_highwater» → (metaOf (s .layout) image′ n ≡ 1) ↔ ((metaOf (s .layout) image n ≡ 1) × Spared s batch i (keyOf (s .layout) image n))
 
 module _ (s : Shape) (batch : List ℕ) where
   spared-more : (i : ℕ) (k : List ℕ) → Spared s batch i k → (Deletes s batch k i → ⊥) → Spared s batch (suc i) k
@@ -57,15 +60,15 @@ module _ (s : Shape) (batch : List ℕ) where
 
 module _ (s : Shape) (image batch : List ℕ) (i : ℕ) (before : List ℕ) (kept : Kept s image batch i before) where
   abbrev key : List ℕ
-  key = keyAt s batch i
+  key = recordKey (s .layout) batch i
 
-  highwater-inside : (n : ℕ) → n < s .«slot_highwater» → n < s .«slot_capacity»
+  highwater-inside : (n : ℕ) → n < s .«slot_highwater» → n < s .layout .«slot_capacity»
   highwater-inside n l = omega (arith, kept .fit .highwater)
 
   -- a record that deletes no live key leaves the image, or one with the same live slots and keys
-  stays : (after : List ℕ) → Around s before after → Formed (s .ordered) (tableOf s after)
-      → ((n : ℕ) → metaOf s after n ≡ metaOf s before n) → ((n : ℕ) → keyOf s after n ≡ keyOf s before n)
-      → ((n : ℕ) → n < s .«slot_highwater» → metaOf s before n ≡ 1 → keyOf s before n ≡ key → Deletes s batch key i → ⊥)
+  stays : (after : List ℕ) → Around (s .layout) before after → Formed (s .layout .ordered) (tableOf s after)
+      → ((n : ℕ) → metaOf (s .layout) after n ≡ metaOf (s .layout) before n) → ((n : ℕ) → keyOf (s .layout) after n ≡ keyOf (s .layout) before n)
+      → ((n : ℕ) → n < s .«slot_highwater» → metaOf (s .layout) before n ≡ 1 → keyOf (s .layout) before n ≡ key → Deletes s batch key i → ⊥)
       → Kept s image batch (suc i) after
   stays after around formed metas keys none =
       record {
@@ -79,16 +82,22 @@ module _ (s : Shape) (image batch : List ℕ) (i : ℕ) (before : List ℕ) (kep
         );
       }
     where
-      here : (n : ℕ) → n < s .«slot_highwater» → metaOf s before n ≡ 1 → Deletes s batch (keyOf s image n) i → ⊥
+      here : (n : ℕ) → n < s .«slot_highwater» → metaOf (s .layout) before n ≡ 1 → Deletes s batch (keyOf (s .layout) image n) i → ⊥
       here n l alive d =
           let same = kept .keys n (highwater-inside n l) in
           none n l alive (same ∙ sym (d .key)) (record { decides = d .decides; meta = d .meta; key = refl })
 
   -- a record that does not decide
-  undecided : decides s batch i ≡ false → Kept s image batch (suc i) before
+  undecided : decides (s .layout) batch i ≡ false → Kept s image batch (suc i) before
   undecided e =
       stays before around-self (kept .formed) (λ n. refl) (λ n. refl)
       (λ n l alive k d. not-both (d .decides) e)
+
+  -- a record whose key is new waits
+  waits : isNew (s .layout) (isLive s image) batch i ≡ true → Kept s image batch (suc i) before
+  waits new =
+      stays before around-self (kept .formed) (λ n. refl) (λ n. refl)
+      (λ n l alive k d. not-both (eq-eqb _ 1 (is-new (s .layout) (isLive s image) batch i new .meta)) (d .meta))
 
   -- a record whose key is absent
   on-absent : (count : ℕ) → probe (tableOf s before) key ≡ absent count → Kept s image batch (suc i) before
@@ -97,61 +106,61 @@ module _ (s : Shape) (image batch : List ℕ) (i : ℕ) (before : List ℕ) (kep
       stays before around-self (kept .formed) (λ n. refl) (λ n. refl)
       (λ n l alive k d. absent-iff (tableOf s before) (kept .formed .sound) key .0 (count, e) n l alive k)
 
-  module _ (inside : i < recordCount s batch) (n count : ℕ) (e : probe (tableOf s before) key ≡ found n count) where
-    hit : (n < s .«slot_highwater») × (metaOf s before n ≡ 1) × (keyOf s before n ≡ key)
+  module _ (inside : i < recordCount (s .layout) batch) (n count : ℕ) (e : probe (tableOf s before) key ≡ found n count) where
+    hit : (n < s .«slot_highwater») × (metaOf (s .layout) before n ≡ 1) × (keyOf (s .layout) before n ≡ key)
     unfolding tableOf
     hit = found-iff (tableOf s before) (kept .formed .sound) key n .0 (count, e)
 
     -- "Put on a live key"
-    on-put : eqb (metaIn (recordAt s batch i)) 1 ≡ true → Kept s image batch (suc i) (rewritten s before n (recordAt s batch i))
+    on-put : eqb (metaIn (recordAt (s .layout) batch i)) 1 ≡ true → Kept s image batch (suc i) (rewritten (s .layout) before n (recordAt (s .layout) batch i))
     on-put put =
-        let bytes = recordAt s batch i in
-        let size = record-length s batch i inside in
+        let bytes = recordAt (s .layout) batch i in
+        let size = record-length (s .layout) batch i inside in
         let l = highwater-inside n (hit .0) in
-        stays (rewritten s before n bytes) (rewritten-around s before (kept .fit) n l bytes size)
-        (clip-formed _ (subst (Formed (s .ordered)) (sym (rewritten-table s before (kept .fit) n l bytes size)) (formed-clip _ (kept .formed))))
+        stays (rewritten (s .layout) before n bytes) (rewritten-around s before (kept .fit) n l bytes size)
+        (clip-formed _ (subst (Formed (s .layout .ordered)) (sym (rewritten-table s before (kept .fit) n l bytes size)) (formed-clip _ (kept .formed))))
         (rewritten-meta s before (kept .fit) n l bytes size) (rewritten-key s before (kept .fit) n l bytes size)
         (λ m l alive k d. not-both put (d .meta))
 
     -- "Delete on a live key"
-    module _ (turn : decides s batch i ≡ true) (delete : eqb (metaIn (recordAt s batch i)) 1 ≡ false) where
+    module _ (turn : decides (s .layout) batch i ≡ true) (delete : eqb (metaIn (recordAt (s .layout) batch i)) 1 ≡ false) where
       abbrev bucket : ℕ
-      bucket = (fnv1a64 key % s .«bucket_count» + (count - 1)) % s .«bucket_count»
+      bucket = (fnv1a64 key % s .layout .«bucket_count» + (count - 1)) % s .layout .«bucket_count»
 
       abbrev after : List ℕ
-      after = removed s before n bucket
+      after = removed (s .layout) before n bucket
 
-      inside-buckets : bucket < s .«bucket_count»
-      inside-buckets = mod-lt _ (omega (arith, kept .fit .room))
+      inside-buckets : bucket < s .layout .«bucket_count»
+      inside-buckets = mod-lt _ (omega (arith, kept .fit .laid .room))
 
-      inside-slots : n < s .«slot_capacity»
+      inside-slots : n < s .layout .«slot_capacity»
       inside-slots = highwater-inside n (hit .0)
 
       delete-table : clip (tableOf s after) ≡ deleted (clip (tableOf s before)) key
       unfolding tableOf
       delete-table = removed-table s before (kept .fit) n bucket inside-slots inside-buckets key count e refl
 
-      delete-formed : Formed (s .ordered) (tableOf s after)
+      delete-formed : Formed (s .layout .ordered) (tableOf s after)
       unfolding tableOf
       delete-formed =
-          clip-formed _ (subst (Formed (s .ordered)) (sym delete-table)
+          clip-formed _ (subst (Formed (s .layout .ordered)) (sym delete-table)
           (deleted-formed (clip (tableOf s before)) (formed-clip _ (kept .formed)) key n count
-          (probe-clip (tableOf s before) (omega (arith, kept .fit .room)) key ∙ e)))
+          (probe-clip (tableOf s before) (omega (arith, kept .fit .laid .room)) key ∙ e)))
 
       -- a slot is live if it was and is not the one
-      left : (m : ℕ) → m < s .«slot_highwater» → (metaOf s after m ≡ 1) ↔ ((metaOf s before m ≡ 1) × (m ≡ n → ⊥))
+      left : (m : ℕ) → m < s .«slot_highwater» → (metaOf (s .layout) after m ≡ 1) ↔ ((metaOf (s .layout) before m ≡ 1) × (m ≡ n → ⊥))
       left m l = (λ a. (sym (other m l (gone m a)) ∙ a, gone m a), λ b. other m l (b .1) ∙ b .0)
         where
-          other : (m : ℕ) → m < s .«slot_highwater» → (m ≡ n → ⊥) → metaOf s after m ≡ metaOf s before m
+          other : (m : ℕ) → m < s .«slot_highwater» → (m ≡ n → ⊥) → metaOf (s .layout) after m ≡ metaOf (s .layout) before m
           other m l = removed-other s before (kept .fit) n bucket inside-slots inside-buckets m (highwater-inside m l)
 
-          gone : (m : ℕ) → metaOf s after m ≡ 1 → m ≡ n → ⊥
+          gone : (m : ℕ) → metaOf (s .layout) after m ≡ 1 → m ≡ n → ⊥
           gone m a same =
-              let z : metaOf s after m ≡ 0 = ap (metaOf s after) same ∙ removed-meta s before (kept .fit) n bucket inside-slots inside-buckets in
+              let z : metaOf (s .layout) after m ≡ 0 = ap (metaOf (s .layout) after) same ∙ removed-meta s before (kept .fit) n bucket inside-slots inside-buckets in
               omega arith
 
       -- the slot with the key is the one
-      the-one : (m : ℕ) → m < s .«slot_highwater» → metaOf s before m ≡ 1 → keyOf s image m ≡ key → m ≡ n
+      the-one : (m : ℕ) → m < s .«slot_highwater» → metaOf (s .layout) before m ≡ 1 → keyOf (s .layout) image m ≡ key → m ≡ n
       unfolding tableOf
       the-one m l alive k =
           kept .formed .sound .different m n l (hit .0) alive (hit .1) (kept .keys m (highwater-inside m l) ∙ k ∙ sym (hit .2))
@@ -167,43 +176,44 @@ module _ (s : Shape) (image batch : List ℕ) (i : ℕ) (before : List ℕ) (kep
             lives = λ m l. (λ a. gone m l (left m l .0 a), λ b. left m l .1 (kept .lives m l .1 (b .0, spared-less s batch i _ (b .1)), apart m b));
           }
         where
-          gone : (m : ℕ) (l : m < s .«slot_highwater») → (metaOf s before m ≡ 1) × (m ≡ n → ⊥)
-              → (metaOf s image m ≡ 1) × Spared s batch (suc i) (keyOf s image m)
+          gone : (m : ℕ) (l : m < s .«slot_highwater») → (metaOf (s .layout) before m ≡ 1) × (m ≡ n → ⊥)
+              → (metaOf (s .layout) image m ≡ 1) × Spared s batch (suc i) (keyOf (s .layout) image m)
           gone m l b =
               let was = kept .lives m l .0 (b .0) in
               (was .0, spared-more s batch i _ (was .1) (λ d. b .1 (the-one m l (b .0) (sym (d .key)))))
 
-          apart : (m : ℕ) → (metaOf s image m ≡ 1) × Spared s batch (suc i) (keyOf s image m) → m ≡ n → ⊥
+          apart : (m : ℕ) → (metaOf (s .layout) image m ≡ 1) × Spared s batch (suc i) (keyOf (s .layout) image m) → m ≡ n → ⊥
           apart m b same =
-              let k = ap (keyOf s image) same ∙ sym (kept .keys n inside-slots) ∙ hit .2 in
+              let k = ap (keyOf (s .layout) image) same ∙ sym (kept .keys n inside-slots) ∙ hit .2 in
               b .1 i (omega arith) (record { decides = turn; meta = delete; key = sym k })
 
   -- one record more
-  pub acted-kept : i < recordCount s batch → Kept s image batch (suc i) (acted s batch i before)
-  unfolding acted probeOf keyAt
-  acted-kept inside = turn (decides s batch i) refl
+  pub acted-kept : i < recordCount (s .layout) batch → Kept s image batch (suc i) (acted s (isNew (s .layout) (isLive s image) batch) batch i before)
+  unfolding acted probeOf recordKey
+  acted-kept inside = turn (decides (s .layout) batch i) (isNew (s .layout) (isLive s image) batch i) refl refl
     where
-      by-meta : decides s batch i ≡ true → (n count : ℕ) → probe (tableOf s before) key ≡ found n count → (put : Bool)
-          → eqb (metaIn (recordAt s batch i)) 1 ≡ put
-          → Kept s image batch (suc i) (cond put (rewritten s before n (recordAt s batch i))
-          (removed s before n ((fnv1a64 key % s .«bucket_count» + (count - 1)) % s .«bucket_count»)))
+      by-meta : decides (s .layout) batch i ≡ true → (n count : ℕ) → probe (tableOf s before) key ≡ found n count → (put : Bool)
+          → eqb (metaIn (recordAt (s .layout) batch i)) 1 ≡ put
+          → Kept s image batch (suc i) (cond put (rewritten (s .layout) before n (recordAt (s .layout) batch i))
+          (removed (s .layout) before n ((fnv1a64 key % s .layout .«bucket_count» + (count - 1)) % s .layout .«bucket_count»)))
       by-meta d n count e true put = on-put inside n count e put
       by-meta d n count e false put = on-delete inside n count e d put
 
-      by-probe : decides s batch i ≡ true → (p : Probed) → probe (tableOf s before) key ≡ p → Kept s image batch (suc i) (onLive s before (recordAt s batch i) p)
-      by-probe d (found n count) e = by-meta d n count e (eqb (metaIn (recordAt s batch i)) 1) refl
+      by-probe : decides (s .layout) batch i ≡ true → (p : Probed) → probe (tableOf s before) key ≡ p → Kept s image batch (suc i) (onLive s before (recordAt (s .layout) batch i) p)
+      by-probe d (found n count) e = by-meta d n count e (eqb (metaIn (recordAt (s .layout) batch i)) 1) refl
       by-probe d (absent count) e = on-absent count e
       by-probe d broken e = absurd (never-broken (tableOf s before) (kept .formed .sound) key e)
 
-      turn : (d : Bool) → decides s batch i ≡ d
-          → Kept s image batch (suc i) (cond d (onLive s before (recordAt s batch i) (probe (tableOf s before) key)) before)
-      turn true d = by-probe d (probe (tableOf s before) key) refl
-      turn false d = undecided d
+      turn : (d new : Bool) → decides (s .layout) batch i ≡ d → isNew (s .layout) (isLive s image) batch i ≡ new
+          → Kept s image batch (suc i) (cond (d && not new) (onLive s before (recordAt (s .layout) batch i) (probe (tableOf s before) key)) before)
+      turn true true d e = waits e
+      turn true false d e = by-probe d (probe (tableOf s before) key) refl
+      turn false new d e = undecided d
 
 -- after the records below i
-pub live-kept : (s : Shape) (image batch : List ℕ) → Shaped s image → Formed (s .ordered) (tableOf s image)
-    → (i : ℕ) → i ≤ recordCount s batch → Kept s image batch i (afterLive s image batch i)
-unfolding afterLive
+pub live-kept : (s : Shape) (image batch : List ℕ) → Shaped s image → Formed (s .layout .ordered) (tableOf s image)
+    → (i : ℕ) → i ≤ recordCount (s .layout) batch → Kept s image batch i (afterLive s image batch i)
+unfolding afterLive actedTo
 live-kept s image batch fit formed zero l =
     record {
       around = around-self;

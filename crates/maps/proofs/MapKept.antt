@@ -1,7 +1,7 @@
 -- A change of state or of user fields leaves the map that lookup reads.
 -- Assumes nothing.
 use Prim.Native.Nat.{ℕ, _≤_}
-use mathlib.Core.Path.{_≡_, refl, ap, _∙_}
+use mathlib.Core.Path.{_≡_, ap, _∙_}
 use mathlib.Core.List.{List}
 use native.Mathlib.Omega.{arith}
 use Rattle.header.specs.declared.options.Options.{Options}
@@ -12,28 +12,29 @@ use Rattle.header.specs.HeaderTest.{headerTest, shapeOf}
 use Rattle.header.specs.Shaped.{Shaped}
 use Rattle.header.specs.Sizes.{bucketsOffset}
 use Rattle.header.proofs.Fit.{judged-fit, fit-shaped}
-use Rattle.image.specs.Table.{slotAt}
+use Rattle.image.specs.Table.{slotAt, tableOf}
+use Rattle.image.specs.Lookup.{probeOf}
 use Rattle.writing.proofs.Kept.{Kept}
 use Rattle.writing.proofs.KeptTable.{moved, kept-shape, kept-table}
 use Rattle.slots.proofs.Table.Around.{SameSlot, same-slot}
 use Rattle.maps.specs.Map.{mapOf}
-use Rattle.maps.proofs.MapShape.{alike-map, same-map}
+use Rattle.maps.proofs.MapShape.{same-map}
 
 module _ (s : Shape) (image image′ : List ℕ) (fit : Shaped s image) (kept : Kept image image′) where
-  offset : 256 ≤ s .«buckets_offset»
+  offset : 256 ≤ s .layout .«buckets_offset»
   unfolding bucketsOffset
-  offset = omega (arith, fit .offset)
+  offset = omega (arith, fit .laid .offset)
 
-  slots : (n : ℕ) → SameSlot s image image′ n
+  slots : (n : ℕ) → SameSlot (s .layout) image image′ n
   unfolding slotAt
-  slots n = same-slot s image image′ fit n (record { parts = λ a m from to. kept .behind a m (omega arith) })
+  slots n = same-slot (s .layout) image image′ (fit .laid) n (record { parts = λ a m from to. kept .behind a m (omega arith) })
 
 -- Where the header test passes, the map after is the map before, each read by its own header.
 pub kept-map : (o : Options) (image image′ : List ℕ) → headerTest o image ≡ 0 → Kept image image′ → (k : List ℕ)
     → mapOf (shapeOf image′) image′ k ≡ mapOf (shapeOf image) image k
+unfolding mapOf probeOf tableOf
 kept-map o image image′ z kept k =
     let s = shapeOf image in
     let fit = fit-shaped o image s (judged-fit o image z) in
     ap (λ (t : Shape). mapOf t image′ k) (kept-shape image image′ kept)
-    ∙ alike-map (moved s (value image′ F.state) (value image′ F.generation)) s image′ k refl
     ∙ same-map s image image′ (kept-table image image′ kept s (offset s image image′ fit kept)) (slots s image image′ fit kept) k

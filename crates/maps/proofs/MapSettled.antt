@@ -10,19 +10,21 @@ use Rattle.header.specs.Fields.{value}
 use Rattle.header.specs.HeaderTest.{shapeOf}
 use Rattle.header.specs.Shaped.{Shaped}
 use Rattle.image.specs.Table.{tableOf}
+use Rattle.image.specs.Lookup.{probeOf}
 use Rattle.slots.specs.Slots.{counted}
 use Rattle.slots.proofs.Table.Counted as write
-use Rattle.applying.specs.Apply.{withCounters, withSlots, tidied, recounted, settled}
+use Rattle.header.specs.Counters.{withCounters, withSlots}
+use Rattle.applying.specs.Apply.{tidied, recounted, settled}
 use Rattle.maps.specs.Map.{mapOf}
 use Rattle.maps.proofs.Formed.{Formed}
 use Rattle.maps.proofs.Settled.{is-tidy, recounted-fit, settled-shape}
 use Rattle.maps.proofs.MapSlots.{map-kept}
-use Rattle.maps.proofs.MapShape.{plain, alike-map, same-map}
+use Rattle.maps.proofs.MapShape.{same-map}
 use Rattle.maps.proofs.MapSteps.{same-has, has-same, same-entry}
 
 -- Where n slots are given out and the rest of the shape is the header's, settling leaves the map, read by the new header.
 module _ (s : Shape) (n : ℕ) (image : List ℕ) (head : shapeOf image ≡ s) (fit : Shaped (withSlots s n) image)
-    (formed : Formed (s .ordered) (tableOf (withSlots s n) image)) (more : value image F.generation + 2 < 2 ^ 64) (k : List ℕ) where
+    (formed : Formed (s .layout .ordered) (tableOf (withSlots s n) image)) (more : value image F.generation + 2 < 2 ^ 64) (k : List ℕ) where
   abbrev given : Shape
   given = withSlots s n
 
@@ -32,13 +34,13 @@ module _ (s : Shape) (n : ℕ) (image : List ℕ) (head : shapeOf image ≡ s) (
   abbrev new : Shape
   new = recounted given tidy
 
-  -- they differ in what does not matter
-  read-alike : plain (write.recounted s new) ≡ plain new
-  unfolding recounted withSlots withCounters
+  -- the map hangs on the layout and on highwater alone
+  read-alike : mapOf (write.countedShape s new) (counted new tidy) k ≡ mapOf new (counted new tidy) k
+  unfolding mapOf probeOf tableOf recounted withSlots withCounters
   read-alike = refl
 
-  new-alike : plain new ≡ plain given
-  unfolding recounted withSlots withCounters
+  new-alike : mapOf new tidy k ≡ mapOf given tidy k
+  unfolding mapOf probeOf tableOf recounted withSlots withCounters
   new-alike = refl
 
   -- the slots stay through a rebuild
@@ -54,7 +56,7 @@ module _ (s : Shape) (n : ℕ) (image : List ℕ) (head : shapeOf image ≡ s) (
   settled-map =
       let fit′ = recounted-fit s n image head fit formed in
       ap (λ (t : Shape). mapOf t (counted new tidy) k) (settled-shape s n image head fit formed more)
-      ∙ alike-map (write.recounted s new) new (counted new tidy) k read-alike
+      ∙ read-alike
       ∙ same-map new tidy (counted new tidy) (write.counted-table new tidy fit′) (write.counted-slot new tidy fit′) k
-      ∙ alike-map new given tidy k new-alike
+      ∙ new-alike
       ∙ tidied-map

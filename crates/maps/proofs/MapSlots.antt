@@ -3,26 +3,28 @@
 use Prim.Native.Nat.{ℕ, _<_}
 use mathlib.Core.Path.{_≡_, refl, sym, ap, _∙_}
 use mathlib.Core.Logic.{_↔_, _⊎_, inl, inr}
+use mathlib.Core.Bool.{true, false}
 use mathlib.Core.List.{List}
 use mathlib.Core.Option.{some, none}
 use Rattle.probing.specs.Probe.{Probed, found, absent, broken}
 use Rattle.probing.specs.Sound.{Sound}
-use Rattle.probing.proofs.Keys.{clash}
+use Rattle.probing.proofs.Keys.{clash, not-both}
 use Rattle.probing.proofs.Reading.{never-broken, found-iff, absent-iff}
+use Rattle.header.specs.declared.shape.Layout.{Layout}
 use Rattle.header.specs.declared.shape.Shape.{Shape}
 use Rattle.image.specs.Table.{metaOf, keyOf, revisionOf, indexOf, tableOf}
-use Rattle.image.specs.Lookup.{probeOf}
+use Rattle.image.specs.Lookup.{probeOf, isFound, isLive}
 use Rattle.maps.specs.Map.{Entry, entryAt, mapOf}
 
 -- what slot n shows
-abbrev pub entryOf : Shape → List ℕ → ℕ → Entry
-entryOf s image n = record { revision = revisionOf s image n; index = indexOf s image n }
+abbrev pub entryOf : Layout → List ℕ → ℕ → Entry
+entryOf l image n = record { revision = revisionOf l image n; index = indexOf l image n }
 
 -- Slot n is live and has key k.
 pub record Has (s : Shape) (image k : List ℕ) (n : ℕ) : Type 0 where
   pub below : n < s .«slot_highwater»
-  pub alive : metaOf s image n ≡ 1
-  pub key : keyOf s image n ≡ k
+  pub alive : metaOf (s .layout) image n ≡ 1
+  pub key : keyOf (s .layout) image n ≡ k
 
 -- no live slot has key k
 abbrev pub Lacks : Shape → List ℕ → List ℕ → Type 0
@@ -48,6 +50,25 @@ module _ (s : Shape) (image : List ℕ) (sound : Sound (tableOf s image)) (k : L
   unfolding probeOf tableOf
   lacks-absent h = absent-iff (tableOf s image) sound k .1 (λ n l a e. h n (record { below = l; alive = a; key = e }))
 
+  -- a key that a live slot has is live, and one that none has is not
+  pub has-live : (n : ℕ) → Has s image k n → isLive s image k ≡ true
+  unfolding isLive
+  has-live n h = ap isFound (has-found n h .1)
+
+  pub lacks-live : Lacks s image k → isLive s image k ≡ false
+  unfolding isLive
+  lacks-live h = ap isFound (lacks-absent h .1)
+
+  -- a key that is not live is absent
+  pub not-live : isLive s image k ≡ false → (count : ℕ) × (probeOf s image k ≡ absent count)
+  unfolding isLive probeOf
+  not-live e = go (probeOf s image k) e refl
+    where
+      go : (p : Probed) → isFound p ≡ false → probeOf s image k ≡ p → (count : ℕ) × (probeOf s image k ≡ absent count)
+      go (found n count) f q = absurd (not-both refl f)
+      go (absent count) f q = (count, q)
+      go broken f q = absurd (never-broken (tableOf s image) sound k q)
+
   -- it does one or the other
   pub has-or-lacks : ((n : ℕ) × Has s image k n) ⊎ Lacks s image k
   unfolding probeOf
@@ -64,19 +85,19 @@ module _ (s : Shape) (image : List ℕ) (sound : Sound (tableOf s image)) (k : L
   one-has m n p q = sound .different m n (p .below) (q .below) (p .alive) (q .alive) (p .key ∙ sym (q .key))
 
   -- what the map says of the key
-  pub map-has : (n : ℕ) → Has s image k n → mapOf s image k ≡ some (entryOf s image n)
+  pub map-has : (n : ℕ) → Has s image k n → mapOf s image k ≡ some (entryOf (s .layout) image n)
   unfolding mapOf
-  map-has n h = ap (entryAt s image) (has-found n h .1)
+  map-has n h = ap (entryAt (s .layout) image) (has-found n h .1)
 
   pub map-lacks : Lacks s image k → mapOf s image k ≡ none
   unfolding mapOf
-  map-lacks h = ap (entryAt s image) (lacks-absent h .1)
+  map-lacks h = ap (entryAt (s .layout) image) (lacks-absent h .1)
 
   -- The key has an entry just where a live slot with the key shows it, and none just where no live slot has the key.
-  pub some-iff : (e : Entry) → (mapOf s image k ≡ some e) ↔ ((n : ℕ) × Has s image k n × (entryOf s image n ≡ e))
+  pub some-iff : (e : Entry) → (mapOf s image k ≡ some e) ↔ ((n : ℕ) × Has s image k n × (entryOf (s .layout) image n ≡ e))
   some-iff e = (there has-or-lacks, λ h. map-has (h .0) (h .1) ∙ ap some (h .2))
     where
-      there : ((n : ℕ) × Has s image k n) ⊎ Lacks s image k → mapOf s image k ≡ some e → (n : ℕ) × Has s image k n × (entryOf s image n ≡ e)
+      there : ((n : ℕ) × Has s image k n) ⊎ Lacks s image k → mapOf s image k ≡ some e → (n : ℕ) × Has s image k n × (entryOf (s .layout) image n ≡ e)
       there (inl h) q = (h .0, h .1, cc (map-has (h .0) (h .1)))
       there (inr h) q = clash (cc (map-lacks h))
 
@@ -86,7 +107,7 @@ module _ (s : Shape) (image : List ℕ) (sound : Sound (tableOf s image)) (k : L
 -- Where the slots that have a key are the same and show the same, the key has the same.
 module _ (s : Shape) (image : List ℕ) (sound : Sound (tableOf s image)) (s′ : Shape) (image′ : List ℕ) (sound′ : Sound (tableOf s′ image′)) (k : List ℕ) where
   pub map-kept :
-      ((n : ℕ) → Has s image k n → Has s′ image′ k n × (entryOf s′ image′ n ≡ entryOf s image n)) → ((n : ℕ) → Has s′ image′ k n → Has s image k n)
+      ((n : ℕ) → Has s image k n → Has s′ image′ k n × (entryOf (s′ .layout) image′ n ≡ entryOf (s .layout) image n)) → ((n : ℕ) → Has s′ image′ k n → Has s image k n)
       → mapOf s′ image′ k ≡ mapOf s image k
   map-kept on back = go (has-or-lacks s image sound k)
     where

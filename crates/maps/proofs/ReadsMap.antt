@@ -20,7 +20,7 @@ use Rattle.image.proofs.Looked.{looked-by}
 use Rattle.maps.specs.Map.{Entry, entryAt, mapOf}
 use Rattle.maps.proofs.MapSlots.{has-found, lacks-absent, some-iff, none-iff}
 
-module _ (o : Options) (image key : List ℕ) (header : headerTest o image ≡ 0) (size : length key ≡ shapeOf image .«key_size») where
+module _ (o : Options) (image key : List ℕ) (header : headerTest o image ≡ 0) (size : length key ≡ shapeOf image .layout .«key_size») where
   -- lookup, by what the probe ends in
   looked : (p : Probed) → probeOf (shapeOf image) image key ≡ p → lookupOf o image key ≡ lookupBy (shapeOf image) image p
   unfolding lookupOf
@@ -40,7 +40,7 @@ module _ (o : Options) (image key : List ℕ) (header : headerTest o image ≡ 0
   map-looked = go (probeOf (shapeOf image) image key) refl
     where
       go : (p : Probed) → probeOf (shapeOf image) image key ≡ p
-          → entryAt (shapeOf image) image p
+          → entryAt (shapeOf image .layout) image p
           ≡ cond (eqb (lookupOf o image key .answer) done)
           (some (record { revision = lookupOf o image key .revision; index = indexBy (shapeOf image) image (lookupOf o image key) })) none
       go (found n count) e = rw (looked _ e)

@@ -23,27 +23,28 @@ use Rattle.header.specs.Sizes.{bucketsOffset}
 use Rattle.image.specs.Table.{slotAt, keyAt, revisionAt, indexAt, bucketAt, metaOf, keyOf, revisionOf, indexOf, bucketOf, tableOf}
 use Rattle.image.specs.Check.{passes}
 use Rattle.slots.specs.Slots.{rebuilt}
-use Rattle.slots.proofs.Table.Around.{Around, around-self, around-bytes, around-shape, around-shaped, SameSlot, same-slot-self}
+use Rattle.slots.proofs.Table.Around.{Around, around-self, around-bytes, around-shape, around-shaped, SameSlot, same-slot-self, same-slot-then}
 use Rattle.slots.proofs.Table.Rebuilt.{rebuilt-around, rebuilt-slot, rebuilt-table}
 use Rattle.slots.proofs.Table.Counted as write
-use Rattle.applying.specs.Apply.{withCounters, withSlots, tidied, recounted, settled}
+use Rattle.header.specs.Counters.{withCounters, withSlots}
+use Rattle.applying.specs.Apply.{tidied, recounted, settled}
 use Rattle.maps.proofs.Formed.{Formed, formed-clip, clip-formed, rebuilt-formed, rebuilt-clear, formed-passes}
 
 -- What is left after "if 4 x tombstones > B, the index is rebuilt".
 pub record Tidy (s : Shape) (image image′ : List ℕ) : Type 0 where
-  pub around : Around s image image′
+  pub around : Around (s .layout) image image′
   pub fit : Shaped s image′
-  pub slots : (n : ℕ) → n < s .«slot_capacity» → SameSlot s image image′ n
-  pub formed : Formed (s .ordered) (tableOf s image′)
-  pub few : 4 * tombstoneCount (tableOf s image′) ≤ s .«bucket_count»
+  pub slots : (n : ℕ) → n < s .layout .«slot_capacity» → SameSlot (s .layout) image image′ n
+  pub formed : Formed (s .layout .ordered) (tableOf s image′)
+  pub few : 4 * tombstoneCount (tableOf s image′) ≤ s .layout .«bucket_count»
 
-module _ (s : Shape) (image : List ℕ) (fit : Shaped s image) (formed : Formed (s .ordered) (tableOf s image)) where
-  within : Formed (s .ordered) (clip (tableOf s image))
+module _ (s : Shape) (image : List ℕ) (fit : Shaped s image) (formed : Formed (s .layout .ordered) (tableOf s image)) where
+  within : Formed (s .layout .ordered) (clip (tableOf s image))
   within = formed-clip (tableOf s image) formed
 
   room : clip (tableOf s image) .highwater < clip (tableOf s image) .B
   unfolding clip tableOf
-  room = omega (arith, fit .highwater, fit .room)
+  room = omega (arith, fit .highwater, fit .laid .room)
 
   rebuilt-tidy : Tidy s image (rebuilt s image)
   rebuilt-tidy =
@@ -51,7 +52,7 @@ module _ (s : Shape) (image : List ℕ) (fit : Shaped s image) (formed : Formed 
         around = rebuilt-around s image fit;
         fit = around-shaped (rebuilt-around s image fit) fit;
         slots = rebuilt-slot s image fit;
-        formed = clip-formed _ (subst (Formed (s .ordered)) (sym (rebuilt-table s image fit)) (rebuilt-formed (clip (tableOf s image)) within room));
+        formed = clip-formed _ (subst (Formed (s .layout .ordered)) (sym (rebuilt-table s image fit)) (rebuilt-formed (clip (tableOf s image)) within room));
         few = omega (arith, clear);
       }
     where
@@ -63,9 +64,9 @@ module _ (s : Shape) (image : List ℕ) (fit : Shaped s image) (formed : Formed 
 
   pub tidied-tidy : Tidy s image (tidied s image)
   unfolding tidied
-  tidied-tidy = go (ltb (s .«bucket_count») (4 * tombstoneCount (tableOf s image))) refl
+  tidied-tidy = go (ltb (s .layout .«bucket_count») (4 * tombstoneCount (tableOf s image))) refl
     where
-      go : (many : Bool) → ltb (s .«bucket_count») (4 * tombstoneCount (tableOf s image)) ≡ many → Tidy s image (cond many (rebuilt s image) image)
+      go : (many : Bool) → ltb (s .layout .«bucket_count») (4 * tombstoneCount (tableOf s image)) ≡ many → Tidy s image (cond many (rebuilt s image) image)
       go true e = rebuilt-tidy
       go false e =
           record {
@@ -73,12 +74,12 @@ module _ (s : Shape) (image : List ℕ) (fit : Shaped s image) (formed : Formed 
             fit = fit;
             slots = λ n l. same-slot-self;
             formed = formed;
-            few = ltb-false (s .«bucket_count») (4 * tombstoneCount (tableOf s image)) e;
+            few = ltb-false (s .layout .«bucket_count») (4 * tombstoneCount (tableOf s image)) e;
           }
 
 -- Where n slots are given out and the rest of the shape is the header's
 module _ (s : Shape) (n : ℕ) (image : List ℕ) (head : shapeOf image ≡ s) (fit : Shaped (withSlots s n) image)
-    (formed : Formed (s .ordered) (tableOf (withSlots s n) image)) where
+    (formed : Formed (s .layout .ordered) (tableOf (withSlots s n) image)) where
   abbrev given : Shape
   given = withSlots s n
 
@@ -103,13 +104,9 @@ module _ (s : Shape) (n : ℕ) (image : List ℕ) (head : shapeOf image ≡ s) (
   unfolding recounted withSlots withCounters tableOf
   recounted-fit =
       record {
-        slot = is-tidy .fit .slot;
-        offset = is-tidy .fit .offset;
-        inside = is-tidy .fit .inside;
+        laid = is-tidy .fit .laid;
         counters = omega (arith, is-tidy .formed .used, is-tidy .formed .balanced);
         highwater = is-tidy .fit .highwater;
-        room = is-tidy .fit .room;
-        small = is-tidy .fit .small;
       }
 
   pub settled-length : length after ≡ length image
@@ -117,22 +114,14 @@ module _ (s : Shape) (n : ℕ) (image : List ℕ) (head : shapeOf image ≡ s) (
   settled-length = write.counted-length new tidy recounted-fit ∙ is-tidy .around .size
 
   -- the slots stay, and so does what lies behind the buckets
-  pub settled-slot : (m : ℕ) → m < s .«slot_capacity» → SameSlot s image after m
-  unfolding settled recounted withSlots withCounters metaOf keyOf revisionOf indexOf keyAt revisionAt indexAt slotAt
-  settled-slot m l =
-      let first = is-tidy .slots m l in
-      let then = write.counted-slot new tidy recounted-fit m in
-      record {
-        meta = then .meta ∙ first .meta;
-        key = then .key ∙ first .key;
-        revision = then .revision ∙ first .revision;
-        index = then .index ∙ first .index;
-      }
+  pub settled-slot : (m : ℕ) → m < s .layout .«slot_capacity» → SameSlot (s .layout) image after m
+  unfolding settled recounted withSlots withCounters
+  settled-slot m l = same-slot-then (is-tidy .slots m l) (write.counted-slot new tidy recounted-fit m)
 
-  pub settled-behind : (a k : ℕ) → s .«buckets_offset» + 16 * s .«bucket_count» ≤ a → part after a k ≡ part image a k
+  pub settled-behind : (a k : ℕ) → s .layout .«buckets_offset» + 16 * s .layout .«bucket_count» ≤ a → part after a k ≡ part image a k
   unfolding settled withSlots withCounters bucketsOffset
   settled-behind a k l =
-      write.counted-behind new tidy recounted-fit a k (omega (arith, fit .offset)) ∙ is-tidy .around .behind a k l
+      write.counted-behind new tidy recounted-fit a k (omega (arith, fit .laid .offset)) ∙ is-tidy .around .behind a k l
 
   same-generation : value tidy F.generation ≡ value image F.generation
   unfolding value
@@ -140,20 +129,20 @@ module _ (s : Shape) (n : ℕ) (image : List ℕ) (head : shapeOf image ≡ s) (
 
   -- the table stays
   settled-table : tableOf new after ≡ table
-  unfolding settled recounted withSlots withCounters tableOf bucketOf bucketAt metaOf keyOf keyAt slotAt
+  unfolding settled recounted withSlots withCounters tableOf
   settled-table = write.counted-table new tidy recounted-fit
 
   module _ (more : value image F.generation + 2 < 2 ^ 64) where
-    pub settled-shape : shapeOf after ≡ write.recounted s new
+    pub settled-shape : shapeOf after ≡ write.countedShape s new
     unfolding settled
     settled-shape =
         write.counted-shape new tidy recounted-fit (rw same-generation more)
-        ∙ ap (λ (t : Shape). write.recounted t new) (around-shape (is-tidy .around) ∙ head)
+        ∙ ap (λ (t : Shape). write.countedShape t new) (around-shape (is-tidy .around) ∙ head)
 
     -- the full check passes
     pub settled-passes : passes (shapeOf after) after ≡ true
-    unfolding passes recounted withSlots withCounters tableOf bucketOf bucketAt metaOf keyOf keyAt slotAt
+    unfolding passes recounted withSlots withCounters tableOf
     settled-passes =
         rw settled-shape
-        (ap (λ (t : Table). checks t (s .ordered) (liveCount table) (liveCount table) (tombstoneCount table)) settled-table
+        (ap (λ (t : Table). checks t (s .layout .ordered) (liveCount table) (liveCount table) (tombstoneCount table)) settled-table
         ∙ formed-passes table (is-tidy .formed))

@@ -1,6 +1,6 @@
 -- Laws of `put` and `part`.
 -- Assumes nothing.
-use Prim.Native.Nat.{ℕ, suc, _+_, _≤_, _<_}
+use Prim.Native.Nat.{ℕ, suc, _+_, _-_, _≤_, _<_}
 use mathlib.Core.Path.{_≡_, refl, sym, ap, _∙_}
 use mathlib.Core.List.{List, [], _∷_, _++_, append-assoc, append-nil}
 use native.Mathlib.Nat.{add-zero, add-assoc}
@@ -23,6 +23,13 @@ part-add s at n m = take-add n m (drop at s) ∙ ap (λ (l : List ℕ). take n (
 pub length-part : (s : List ℕ) (at n : ℕ) → at + n ≤ length s → length (part s at n) ≡ n
 unfolding part
 length-part s at n h = length-take-le n (drop at s) (rw length-drop (omega arith))
+
+-- the bytes from one offset to another are a part
+pub range-part : (xs : List ℕ) (at end n : ℕ) → end ≡ at + n → take (end - at) (drop at xs) ≡ part xs at n
+unfolding part
+range-part xs at end n e =
+    let size : end - at ≡ n = omega arith in
+    rw size
 
 -- nothing put
 pub put-none : (s : List ℕ) (at : ℕ) → put s at [] ≡ s

@@ -6,70 +6,69 @@ ghost use lib.Dec.{eqb};
 ghost use lib.ListN.{length};
 ghost use Rattle.probing.specs.Change.{placeFrom};
 ghost use Rattle.header.specs.Fields.{value, generation};
-ghost use Rattle.header.specs.Shaped.{Shaped};
+ghost use Rattle.header.specs.Shaped.{LaidOut, Shaped};
 ghost use Rattle.image.specs.Table.{metaOf, tableOf};
 ghost use Rattle.slots.specs.Slots.{rewritten, removed, indexed, appended, rebuilt, counted};
 use digests::fnv::fnv1a64_of;
 use header::fields;
 use header::fields::read;
+use header::shape::Layout;
 use header::shape::Shape;
 use header::sizes::align8;
 use header::state::GENERATION_STEP;
-use image::probe::bucket_at;
-use image::probe::key_part;
-use image::probe::meta_at;
-use image::probe::next_bucket;
-use image::probe::slot_at;
-use image::probe::slot_plus1_at;
+use image::table::TOMBSTONE;
+use image::table::bucket_at;
+use image::table::key_of;
+use image::table::meta_of;
+use image::table::next_bucket;
+use image::table::slot_at;
+use image::table::slot_plus1_of;
 use numbers::parts::clear;
 use numbers::parts::copy_to;
 use numbers::words::put_u64;
 use writing::fields::seal;
 use writing::fields::write;
 
-// The slot_plus1 of a TOMBSTONE.
-const ALL_ONES: u64 = 18446744073709551615;
-
 // Puts the revision and the index of a record into slot n.
-pub fn rewrite(image: &mut [u8], s: Shape, n: usize, record: &[u8])
-    requires { ⌜ Shaped s (now image) ⌝ }
-    requires { ⌜ n < s .«slot_capacity» ⌝ }
-    requires { ⌜ length (now «record») ≡ s .«slot_size» ⌝ }
-    ensures { λ r. ⌜ now (image .exit) ≡ rewritten s (now (image .entry)) n (now («record» .entry)) ⌝ }
+pub fn rewrite(image: &mut [u8], l: Layout, n: usize, record: &[u8])
+    requires { ⌜ LaidOut l (now image) ⌝ }
+    requires { ⌜ n < l .«slot_capacity» ⌝ }
+    requires { ⌜ length (now «record») ≡ l .«slot_size» ⌝ }
+    ensures { λ r. ⌜ now (image .exit) ≡ rewritten l (now (image .entry)) n (now («record» .entry)) ⌝ }
 {
-    let from = 8 + (align8(s.key_size as u64) as usize);
-    let end = from + 8 + s.index_size;
-    let at = slot_at(s, n) + from;
+    let from = 8 + (align8(l.key_size as u64) as usize);
+    let end = from + 8 + l.index_size;
+    let at = slot_at(l, n) + from;
     copy_to(image, at, &record[from..end]);
 }
 
 // Clears the meta of slot n and makes bucket b a TOMBSTONE, its hash64 unchanged.
-pub fn remove(image: &mut [u8], s: Shape, n: usize, b: usize)
-    requires { ⌜ Shaped s (now image) ⌝ }
-    requires { ⌜ n < s .«slot_capacity» ⌝ }
-    requires { ⌜ b < s .«bucket_count» ⌝ }
-    ensures { λ r. ⌜ now (image .exit) ≡ removed s (now (image .entry)) n b ⌝ }
+pub fn remove(image: &mut [u8], l: Layout, n: usize, b: usize)
+    requires { ⌜ LaidOut l (now image) ⌝ }
+    requires { ⌜ n < l .«slot_capacity» ⌝ }
+    requires { ⌜ b < l .«bucket_count» ⌝ }
+    ensures { λ r. ⌜ now (image .exit) ≡ removed l (now (image .entry)) n b ⌝ }
 {
-    let slot = slot_at(s, n);
+    let slot = slot_at(l, n);
     put_u64(image, slot, 0);
-    let bucket = bucket_at(s, b) + 8;
-    put_u64(image, bucket, ALL_ONES);
+    let bucket = bucket_at(l, b) + 8;
+    put_u64(image, bucket, TOMBSTONE);
 }
 
 // The bucket that a key with this hash takes: the first one from its home on that is not FULL.
 fn place_of(image: &[u8], s: Shape, hash: u64) -> usize
     requires { ⌜ Shaped s (now image) ⌝ }
-    ensures { λ r. ⌜ r ≡ placeFrom (tableOf s (now (image .entry))) (s .«bucket_count») (hash % s .«bucket_count») ⌝ }
+    ensures { λ r. ⌜ r ≡ placeFrom (tableOf s (now (image .entry))) (s .layout .«bucket_count») (hash % s .layout .«bucket_count») ⌝ }
 {
-    let count = s.bucket_count;
+    let count = s.layout.bucket_count;
     let mut b = (hash % (count as u64)) as usize;
     let mut left = count;
     while left > 0 {
-        let slot_plus1 = slot_plus1_at(image, s, b);
+        let slot_plus1 = slot_plus1_of(image, s.layout, b);
         if slot_plus1 == 0 {
             return b;
         }
-        if slot_plus1 == ALL_ONES {
+        if slot_plus1 == TOMBSTONE {
             return b;
         }
         b = next_bucket(b, count);
@@ -81,12 +80,12 @@ fn place_of(image: &[u8], s: Shape, hash: u64) -> usize
 // Puts slot n into the index by its key.
 pub fn index_slot(image: &mut [u8], s: Shape, n: usize)
     requires { ⌜ Shaped s (now image) ⌝ }
-    requires { ⌜ n < s .«slot_capacity» ⌝ }
+    requires { ⌜ n < s .layout .«slot_capacity» ⌝ }
     ensures { λ r. ⌜ now (image .exit) ≡ indexed s (now (image .entry)) n ⌝ }
 {
-    let hash = fnv1a64_of(key_part(image, s, n));
+    let hash = fnv1a64_of(key_of(image, s.layout, n));
     let b = place_of(image, s, hash);
-    let at = bucket_at(s, b);
+    let at = bucket_at(s.layout, b);
     put_u64(image, at, hash);
     put_u64(image, at + 8, (n as u64) + 1);
 }
@@ -94,12 +93,12 @@ pub fn index_slot(image: &mut [u8], s: Shape, n: usize)
 // Makes a record the next slot, and puts that slot into the index.
 pub fn append(image: &mut [u8], s: Shape, record: &[u8])
     requires { ⌜ Shaped s (now image) ⌝ }
-    requires { ⌜ s .«slot_highwater» < s .«slot_capacity» ⌝ }
-    requires { ⌜ length (now «record») ≡ s .«slot_size» ⌝ }
+    requires { ⌜ s .«slot_highwater» < s .layout .«slot_capacity» ⌝ }
+    requires { ⌜ length (now «record») ≡ s .layout .«slot_size» ⌝ }
     ensures { λ r. ⌜ now (image .exit) ≡ appended s (now (image .entry)) (now («record» .entry)) ⌝ }
 {
     let n = s.slot_highwater;
-    let at = slot_at(s, n);
+    let at = slot_at(s.layout, n);
     copy_to(image, at, record);
     index_slot(image, s, n);
 }
@@ -107,10 +106,10 @@ pub fn append(image: &mut [u8], s: Shape, record: &[u8])
 // Puts slot n into the index if it is live.
 fn index_live(image: &mut [u8], s: Shape, n: usize)
     requires { ⌜ Shaped s (now image) ⌝ }
-    requires { ⌜ n < s .«slot_capacity» ⌝ }
-    ensures { λ r. ⌜ now (image .exit) ≡ cond (eqb (metaOf s (now (image .entry)) n) 1) (indexed s (now (image .entry)) n) (now (image .entry)) ⌝ }
+    requires { ⌜ n < s .layout .«slot_capacity» ⌝ }
+    ensures { λ r. ⌜ now (image .exit) ≡ cond (eqb (metaOf (s .layout) (now (image .entry)) n) 1) (indexed s (now (image .entry)) n) (now (image .entry)) ⌝ }
 {
-    if meta_at(image, s, n) == 1 {
+    if meta_of(image, s.layout, n) == 1 {
         index_slot(image, s, n);
     }
 }
@@ -121,8 +120,8 @@ pub fn rebuild(image: &mut [u8], s: Shape)
     ensures { λ r. ⌜ now (image .exit) ≡ rebuilt s (now (image .entry)) ⌝ }
 {
     let count = s.slot_highwater;
-    let at = s.buckets_offset;
-    let size = 16 * s.bucket_count;
+    let at = s.layout.buckets_offset;
+    let size = 16 * s.layout.bucket_count;
     clear(image, at, size);
     let mut n = 0;
     while n < count {

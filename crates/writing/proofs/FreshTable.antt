@@ -18,7 +18,7 @@ use Rattle.header.specs.Fields as F
 use Rattle.header.specs.Fields.{value}
 use Rattle.header.specs.FirstOf.{firstOf}
 use Rattle.header.specs.State.{CLEAN}
-use Rattle.header.specs.HeaderTest.{shapeOf}
+use Rattle.header.specs.HeaderTest.{layoutOf, shapeOf}
 use Rattle.header.specs.Sizes.{slotSize, bucketCount, bucketsOffset, totalSize}
 use Rattle.header.proofs.SizeLaws.{slot-size-low}
 use Rattle.image.specs.Check.{passes}
@@ -34,16 +34,19 @@ use Rattle.writing.proofs.Fresh.{fresh-value, fresh-behind}
 abbrev pub freshShape : Options → Shape
 freshShape o =
     record {
-      «key_size» = o .«key_size»;
-      «index_size» = o .«index_size»;
-      «slot_size» = slotSize (o .«key_size») (o .«index_size»);
-      «slot_capacity» = o .«slot_capacity»;
+      layout =
+          record {
+            «key_size» = o .«key_size»;
+            «index_size» = o .«index_size»;
+            «slot_size» = slotSize (o .«key_size») (o .«index_size»);
+            «slot_capacity» = o .«slot_capacity»;
+            «bucket_count» = bucketCount (o .«slot_capacity»);
+            «buckets_offset» = bucketsOffset (o .«slot_capacity») (slotSize (o .«key_size») (o .«index_size»));
+            ordered = eqb (o .ordered) 1;
+          };
       «slot_highwater» = 0;
       «live_count» = 0;
-      «bucket_count» = bucketCount (o .«slot_capacity»);
       «bucket_tombstones» = 0;
-      «buckets_offset» = bucketsOffset (o .«slot_capacity») (slotSize (o .«key_size») (o .«index_size»));
-      ordered = eqb (o .ordered) 1;
       state = CLEAN;
       generation = 0;
     }
@@ -78,16 +81,16 @@ module _ (o : Options) (buffer : List ℕ) (z : firstOf (createTests o buffer) �
   v = fresh-value o buffer z version
 
   pub fresh-shape : shapeOf (createOf o buffer .image) ≡ freshShape o
-  unfolding shapeOf freshFields
+  unfolding shapeOf layoutOf freshFields
   fresh-shape =
       rw (v F.key-size tt, v F.index-size tt, v F.slot-size tt, v F.slot-capacity tt, v F.slot-highwater tt, v F.live-count tt, v F.bucket-count tt, v F.bucket-tombstones tt, v F.buckets-offset tt, v F.flags tt, v F.state tt, v F.generation tt) refl
 
-  pub fresh-meta : (n : ℕ) → n < o .«slot_capacity» → metaOf (freshShape o) (createOf o buffer .image) n ≡ 0
+  pub fresh-meta : (n : ℕ) → n < o .«slot_capacity» → metaOf (freshShape o .layout) (createOf o buffer .image) n ≡ 0
   unfolding metaOf slotAt
   fresh-meta n h =
       ap word (fresh-behind o buffer z version (256 + n * slotSize (o .«key_size») (o .«index_size»)) 8 (omega arith) (slot-inside o n h)) ∙ word-zeros 8
 
-  pub fresh-bucket : (b : ℕ) → b < bucketCount (o .«slot_capacity») → bucketOf (freshShape o) (createOf o buffer .image) b ≡ EMPTY
+  pub fresh-bucket : (b : ℕ) → b < bucketCount (o .«slot_capacity») → bucketOf (freshShape o .layout) (createOf o buffer .image) b ≡ EMPTY
   unfolding bucketOf bucketAt bucketFrom
   fresh-bucket b h =
       let at : ℕ = bucketsOffset (o .«slot_capacity») (slotSize (o .«key_size») (o .«index_size»)) + 16 * b + 8 in

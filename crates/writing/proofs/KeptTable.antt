@@ -10,7 +10,7 @@ use Rattle.header.specs.declared.options.Options.{Options}
 use Rattle.header.specs.declared.shape.Shape.{Shape}
 use Rattle.header.specs.Fields as F
 use Rattle.header.specs.Fields.{value}
-use Rattle.header.specs.HeaderTest.{headerTest, shapeOf}
+use Rattle.header.specs.HeaderTest.{headerTest, layoutOf, shapeOf}
 use Rattle.header.specs.Shaped.{Shaped}
 use Rattle.header.specs.Sizes.{bucketsOffset}
 use Rattle.header.proofs.Fit.{judged-fit, fit-shaped}
@@ -23,16 +23,10 @@ use Rattle.writing.proofs.Kept.{Kept, lasting, kept-value}
 abbrev pub moved : Shape → ℕ → ℕ → Shape
 moved s state generation =
     record {
-      «key_size» = s .«key_size»;
-      «index_size» = s .«index_size»;
-      «slot_size» = s .«slot_size»;
-      «slot_capacity» = s .«slot_capacity»;
+      layout = s .layout;
       «slot_highwater» = s .«slot_highwater»;
       «live_count» = s .«live_count»;
-      «bucket_count» = s .«bucket_count»;
       «bucket_tombstones» = s .«bucket_tombstones»;
-      «buckets_offset» = s .«buckets_offset»;
-      ordered = s .ordered;
       state = state;
       generation = generation;
     }
@@ -42,23 +36,23 @@ module _ (image image′ : List ℕ) (kept : Kept image image′) where
   v = kept-value kept
 
   pub kept-shape : shapeOf image′ ≡ moved (shapeOf image) (value image′ F.state) (value image′ F.generation)
-  unfolding shapeOf
+  unfolding shapeOf layoutOf
   kept-shape =
       rw (v F.key-size tt, v F.index-size tt, v F.slot-size tt, v F.slot-capacity tt, v F.slot-highwater tt, v F.live-count tt, v F.bucket-count tt, v F.bucket-tombstones tt, v F.buckets-offset tt, v F.flags tt) refl
 
-  module _ (s : Shape) (offset : 256 ≤ s .«buckets_offset») where
-    kept-bucket : (b : ℕ) → bucketOf s image′ b ≡ bucketOf s image b
+  module _ (s : Shape) (offset : 256 ≤ s .layout .«buckets_offset») where
+    kept-bucket : (b : ℕ) → bucketOf (s .layout) image′ b ≡ bucketOf (s .layout) image b
     unfolding bucketOf bucketAt
     kept-bucket b =
-        rw (kept .behind (s .«buckets_offset» + 16 * b) 8 (omega arith), kept .behind (s .«buckets_offset» + 16 * b + 8) 8 (omega arith)) refl
+        rw (kept .behind (s .layout .«buckets_offset» + 16 * b) 8 (omega arith), kept .behind (s .layout .«buckets_offset» + 16 * b + 8) 8 (omega arith)) refl
 
-    kept-meta : (n : ℕ) → metaOf s image′ n ≡ metaOf s image n
+    kept-meta : (n : ℕ) → metaOf (s .layout) image′ n ≡ metaOf (s .layout) image n
     unfolding metaOf slotAt
-    kept-meta n = ap word (kept .behind (256 + n * s .«slot_size») 8 (omega arith))
+    kept-meta n = ap word (kept .behind (256 + n * s .layout .«slot_size») 8 (omega arith))
 
-    kept-key : (n : ℕ) → keyOf s image′ n ≡ keyOf s image n
+    kept-key : (n : ℕ) → keyOf (s .layout) image′ n ≡ keyOf (s .layout) image n
     unfolding keyOf keyAt slotAt
-    kept-key n = kept .behind (256 + n * s .«slot_size» + 8) (s .«key_size») (omega arith)
+    kept-key n = kept .behind (256 + n * s .layout .«slot_size» + 8) (s .layout .«key_size») (omega arith)
 
     pub kept-table : tableOf s image′ ≡ tableOf s image
     unfolding tableOf
@@ -66,13 +60,13 @@ module _ (image image′ : List ℕ) (kept : Kept image image′) where
 
 -- the state and the generation are no part of the table
 moved-table : (s : Shape) (image : List ℕ) (state generation : ℕ) → tableOf (moved s state generation) image ≡ tableOf s image
-unfolding tableOf bucketOf bucketAt metaOf keyOf keyAt slotAt
+unfolding tableOf
 moved-table s image state generation = refl
 
 -- the buckets begin behind the header
-buckets-behind : (s : Shape) (image : List ℕ) → Shaped s image → 256 ≤ s .«buckets_offset»
+buckets-behind : (s : Shape) (image : List ℕ) → Shaped s image → 256 ≤ s .layout .«buckets_offset»
 unfolding bucketsOffset
-buckets-behind s image h = omega (arith, h .offset)
+buckets-behind s image h = omega (arith, h .laid .offset)
 
 -- the table of an image that passes the header test stays
 pub same-table : (o : Options) (image image′ : List ℕ) → headerTest o image ≡ 0 → Kept image image′
@@ -88,4 +82,4 @@ pub same-passes : (o : Options) (image image′ : List ℕ) → headerTest o ima
     → passes (shapeOf image′) image′ ≡ passes (shapeOf image) image
 unfolding passes
 same-passes o image image′ z kept =
-    rw (same-table o image image′ z kept) (ap (λ (s : Shape). checks (tableOf (shapeOf image) image) (s .ordered) (s .«live_count») (s .«live_count») (s .«bucket_tombstones»)) (kept-shape image image′ kept))
+    rw (same-table o image image′ z kept) (ap (λ (s : Shape). checks (tableOf (shapeOf image) image) (s .layout .ordered) (s .«live_count») (s .«live_count») (s .«bucket_tombstones»)) (kept-shape image image′ kept))

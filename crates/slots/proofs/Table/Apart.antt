@@ -8,21 +8,21 @@ use native.Mathlib.Decide.{decLt}
 use native.Mathlib.Omega.{arith}
 use lib.ListN.{length}
 use Rattle.numbers.specs.Bytes.{put}
-use Rattle.header.specs.declared.shape.Shape.{Shape}
-use Rattle.header.specs.Shaped.{Shaped}
+use Rattle.header.specs.declared.shape.Layout.{Layout}
+use Rattle.header.specs.Shaped.{LaidOut}
 use Rattle.header.specs.Sizes.{bucketsOffset}
 use Rattle.image.specs.Table.{slotAt, bucketAt, bucketOf}
 use Rattle.image.proofs.Places.{slot-ends}
 use Rattle.slots.proofs.Table.Around.{SameFrom, put-before, put-behind, SameSlot, same-slot, same-bucket, Around, put-around}
 
 -- slots and buckets come one after the other
-slots-apart : (s : Shape) (m n : ℕ) → m < n → slotAt s m + s .«slot_size» ≤ slotAt s n
+slots-apart : (layout : Layout) (m n : ℕ) → m < n → slotAt layout m + layout .«slot_size» ≤ slotAt layout n
 unfolding slotAt
-slots-apart s m n l = omega (arith, rw suc-mul at (mul-le-mul-right (s .«slot_size») l))
+slots-apart layout m n l = omega (arith, rw suc-mul at (mul-le-mul-right (layout .«slot_size») l))
 
-buckets-apart : (s : Shape) (b c : ℕ) → b < c → bucketAt s b + 16 ≤ bucketAt s c
+buckets-apart : (layout : Layout) (b c : ℕ) → b < c → bucketAt layout b + 16 ≤ bucketAt layout c
 unfolding bucketAt
-buckets-apart s b c l = omega arith
+buckets-apart layout b c l = omega arith
 
 module _ (image : List ℕ) (at : ℕ) (bs : List ℕ) (fits : at + length bs ≤ length image) where
   -- a put that lies within one stretch changes nothing in another, where the stretches lie apart by their numbers
@@ -34,44 +34,44 @@ module _ (image : List ℕ) (at : ℕ) (bs : List ℕ) (fits : at + length bs �
       go (yes l) = put-before image at bs fits _ _ (omega (arith, apart m n l))
       go (no l) = put-behind image at bs fits _ _ (omega (arith, apart n m (omega arith)))
 
-module _ (s : Shape) (image : List ℕ) (fit : Shaped s image) (at : ℕ) (bs : List ℕ) where
+module _ (layout : Layout) (image : List ℕ) (fit : LaidOut layout image) (at : ℕ) (bs : List ℕ) where
   -- a put into slot n
-  module _ (n : ℕ) (inside : n < s .«slot_capacity») (low : slotAt s n ≤ at) (high : at + length bs ≤ slotAt s n + s .«slot_size») where
-    in-slots : at + length bs ≤ s .«buckets_offset»
-    in-slots = omega (arith, slot-ends s image fit n inside)
+  module _ (n : ℕ) (inside : n < layout .«slot_capacity») (low : slotAt layout n ≤ at) (high : at + length bs ≤ slotAt layout n + layout .«slot_size») where
+    in-slots : at + length bs ≤ layout .«buckets_offset»
+    in-slots = omega (arith, slot-ends layout image fit n inside)
 
     pub fits-slots : at + length bs ≤ length image
     fits-slots = omega (arith, in-slots, fit .inside)
 
-    pub slot-put-around : Around s image (put image at bs)
+    pub slot-put-around : Around layout image (put image at bs)
     unfolding slotAt
-    slot-put-around = put-around s image fit at bs (omega arith) (omega (arith, in-slots))
+    slot-put-around = put-around layout image fit at bs (omega arith) (omega (arith, in-slots))
 
-    pub slot-put-slot : (m : ℕ) → (m ≡ n → ⊥) → SameSlot s image (put image at bs) m
+    pub slot-put-slot : (m : ℕ) → (m ≡ n → ⊥) → SameSlot layout image (put image at bs) m
     slot-put-slot m other =
-        same-slot s image (put image at bs) fit m (elsewhere image at bs fits-slots (slotAt s) (s .«slot_size») m n (slots-apart s) other low high)
+        same-slot layout image (put image at bs) fit m (elsewhere image at bs fits-slots (slotAt layout) (layout .«slot_size») m n (slots-apart layout) other low high)
 
-    pub slot-put-bucket : (b : ℕ) → bucketOf s (put image at bs) b ≡ bucketOf s image b
+    pub slot-put-bucket : (b : ℕ) → bucketOf layout (put image at bs) b ≡ bucketOf layout image b
     unfolding bucketAt
-    slot-put-bucket b = same-bucket s image (put image at bs) b (put-behind image at bs fits-slots _ _ (omega (arith, in-slots)))
+    slot-put-bucket b = same-bucket layout image (put image at bs) b (put-behind image at bs fits-slots _ _ (omega (arith, in-slots)))
 
   -- a put into bucket b
-  module _ (b : ℕ) (inside : b < s .«bucket_count») (low : bucketAt s b ≤ at) (high : at + length bs ≤ bucketAt s b + 16) where
-    in-buckets : (s .«buckets_offset» ≤ at) × (at + length bs ≤ s .«buckets_offset» + 16 * s .«bucket_count»)
+  module _ (b : ℕ) (inside : b < layout .«bucket_count») (low : bucketAt layout b ≤ at) (high : at + length bs ≤ bucketAt layout b + 16) where
+    in-buckets : (layout .«buckets_offset» ≤ at) × (at + length bs ≤ layout .«buckets_offset» + 16 * layout .«bucket_count»)
     unfolding bucketAt
     in-buckets = omega arith
 
     fits-buckets : at + length bs ≤ length image
     fits-buckets = omega (arith, in-buckets .1, fit .inside)
 
-    pub bucket-put-around : Around s image (put image at bs)
+    pub bucket-put-around : Around layout image (put image at bs)
     unfolding bucketsOffset
-    bucket-put-around = put-around s image fit at bs (omega (arith, in-buckets .0, fit .offset)) (in-buckets .1)
+    bucket-put-around = put-around layout image fit at bs (omega (arith, in-buckets .0, fit .offset)) (in-buckets .1)
 
-    pub bucket-put-slot : (n : ℕ) → n < s .«slot_capacity» → SameSlot s image (put image at bs) n
+    pub bucket-put-slot : (n : ℕ) → n < layout .«slot_capacity» → SameSlot layout image (put image at bs) n
     bucket-put-slot n l =
-        same-slot s image (put image at bs) fit n (put-before image at bs fits-buckets _ _ (omega (arith, in-buckets .0, slot-ends s image fit n l)))
+        same-slot layout image (put image at bs) fit n (put-before image at bs fits-buckets _ _ (omega (arith, in-buckets .0, slot-ends layout image fit n l)))
 
-    pub bucket-put-bucket : (c : ℕ) → (c ≡ b → ⊥) → bucketOf s (put image at bs) c ≡ bucketOf s image c
+    pub bucket-put-bucket : (c : ℕ) → (c ≡ b → ⊥) → bucketOf layout (put image at bs) c ≡ bucketOf layout image c
     bucket-put-bucket c other =
-        same-bucket s image (put image at bs) c (elsewhere image at bs fits-buckets (bucketAt s) 16 c b (buckets-apart s) other low high)
+        same-bucket layout image (put image at bs) c (elsewhere image at bs fits-buckets (bucketAt layout) 16 c b (buckets-apart layout) other low high)

@@ -9,11 +9,12 @@ use Rattle.numbers.specs.Bytes.{part, word, put}
 use Rattle.numbers.specs.Signed.{signed}
 use Rattle.numbers.proofs.Put.{length-put}
 use Rattle.numbers.proofs.PutPart.{part-put-before, part-put-after}
+use Rattle.header.specs.declared.shape.Layout.{Layout}
 use Rattle.header.specs.declared.shape.Shape.{Shape}
 use Rattle.header.specs.Fields as F
 use Rattle.header.specs.Fields.{fieldOf, bytesIn, value}
-use Rattle.header.specs.HeaderTest.{shapeOf}
-use Rattle.header.specs.Shaped.{Shaped}
+use Rattle.header.specs.HeaderTest.{layoutOf, shapeOf}
+use Rattle.header.specs.Shaped.{LaidOut, Shaped}
 use Rattle.image.specs.Table.{slotAt, keyAt, revisionAt, indexAt, bucketAt, metaOf, keyOf, revisionOf, indexOf, bucketFrom, bucketOf}
 use Rattle.writing.proofs.OneField.{in-header}
 use Rattle.image.proofs.Places.{key-in-slot, index-in-slot}
@@ -31,66 +32,66 @@ module _ (image : List ℕ) (at : ℕ) (bs : List ℕ) (fits : at + length bs �
   put-behind low high l = record { parts = λ a n from to. part-put-after image at bs fits a n (omega arith) }
 
 -- Slot n reads as it did.
-pub record SameSlot (s : Shape) (image image′ : List ℕ) (n : ℕ) : Type 0 where
-  pub meta : metaOf s image′ n ≡ metaOf s image n
-  pub key : keyOf s image′ n ≡ keyOf s image n
-  pub revision : revisionOf s image′ n ≡ revisionOf s image n
-  pub index : indexOf s image′ n ≡ indexOf s image n
+pub record SameSlot (layout : Layout) (image image′ : List ℕ) (n : ℕ) : Type 0 where
+  pub meta : metaOf layout image′ n ≡ metaOf layout image n
+  pub key : keyOf layout image′ n ≡ keyOf layout image n
+  pub revision : revisionOf layout image′ n ≡ revisionOf layout image n
+  pub index : indexOf layout image′ n ≡ indexOf layout image n
 
-pub same-slot-self : {s : Shape} {image : List ℕ} {n : ℕ} → SameSlot s image image n
+pub same-slot-self : {layout : Layout} {image : List ℕ} {n : ℕ} → SameSlot layout image image n
 same-slot-self = record { meta = refl; key = refl; revision = refl; index = refl }
 
-pub same-slot-then : {s : Shape} {image image′ image″ : List ℕ} {n : ℕ} → SameSlot s image image′ n → SameSlot s image′ image″ n
-    → SameSlot s image image″ n
+pub same-slot-then : {layout : Layout} {image image′ image″ : List ℕ} {n : ℕ} → SameSlot layout image image′ n → SameSlot layout image′ image″ n
+    → SameSlot layout image image″ n
 same-slot-then p q =
     record { meta = q .meta ∙ p .meta; key = q .key ∙ p .key; revision = q .revision ∙ p .revision; index = q .index ∙ p .index }
 
 -- All of slot n but its meta reads as it did.
-pub record SameBody (s : Shape) (image image′ : List ℕ) (n : ℕ) : Type 0 where
-  pub key : keyOf s image′ n ≡ keyOf s image n
-  pub revision : revisionOf s image′ n ≡ revisionOf s image n
-  pub index : indexOf s image′ n ≡ indexOf s image n
+pub record SameBody (layout : Layout) (image image′ : List ℕ) (n : ℕ) : Type 0 where
+  pub key : keyOf layout image′ n ≡ keyOf layout image n
+  pub revision : revisionOf layout image′ n ≡ revisionOf layout image n
+  pub index : indexOf layout image′ n ≡ indexOf layout image n
 
-module _ (s : Shape) (image image′ : List ℕ) where
-  pub same-body : Shaped s image → (n : ℕ) → SameFrom image image′ (slotAt s n + 8) (slotAt s n + s .«slot_size») → SameBody s image image′ n
+module _ (layout : Layout) (image image′ : List ℕ) where
+  pub same-body : LaidOut layout image → (n : ℕ) → SameFrom image image′ (slotAt layout n + 8) (slotAt layout n + layout .«slot_size») → SameBody layout image image′ n
   unfolding keyOf revisionOf indexOf keyAt revisionAt indexAt
   same-body fit n h =
-      let key = key-in-slot s n in
-      let index = index-in-slot s image fit n in
+      let key = key-in-slot layout n in
+      let index = index-in-slot layout image fit n in
       record {
-        key = h .parts (keyAt s n) (s .«key_size») (omega arith) (omega arith);
-        revision = ap (λ (x : List ℕ). signed (word x)) (h .parts (revisionAt s n) 8 (omega arith) (omega arith));
-        index = h .parts (indexAt s n) (s .«index_size») (omega arith) (omega arith);
+        key = h .parts (keyAt layout n) (layout .«key_size») (omega arith) (omega arith);
+        revision = ap (λ (x : List ℕ). signed (word x)) (h .parts (revisionAt layout n) 8 (omega arith) (omega arith));
+        index = h .parts (indexAt layout n) (layout .«index_size») (omega arith) (omega arith);
       }
 
-  pub same-slot : Shaped s image → (n : ℕ) → SameFrom image image′ (slotAt s n) (slotAt s n + s .«slot_size») → SameSlot s image image′ n
+  pub same-slot : LaidOut layout image → (n : ℕ) → SameFrom image image′ (slotAt layout n) (slotAt layout n + layout .«slot_size») → SameSlot layout image image′ n
   unfolding metaOf indexAt
   same-slot fit n h =
-      let index = index-in-slot s image fit n in
+      let index = index-in-slot layout image fit n in
       let body = same-body fit n (record { parts = λ a m from to. h .parts a m (omega arith) to }) in
       record {
-        meta = ap word (h .parts (slotAt s n) 8 (omega arith) (omega arith));
+        meta = ap word (h .parts (slotAt layout n) 8 (omega arith) (omega arith));
         key = body .key;
         revision = body .revision;
         index = body .index;
       }
 
-  pub same-bucket : (b : ℕ) → SameFrom image image′ (bucketAt s b) (bucketAt s b + 16) → bucketOf s image′ b ≡ bucketOf s image b
+  pub same-bucket : (b : ℕ) → SameFrom image image′ (bucketAt layout b) (bucketAt layout b + 16) → bucketOf layout image′ b ≡ bucketOf layout image b
   unfolding bucketOf
   same-bucket b h =
       ap₂ (λ (x y : List ℕ). bucketFrom (word x) (word y))
-      (h .parts (bucketAt s b) 8 (omega arith) (omega arith)) (h .parts (bucketAt s b + 8) 8 (omega arith) (omega arith))
+      (h .parts (bucketAt layout b) 8 (omega arith) (omega arith)) (h .parts (bucketAt layout b + 8) 8 (omega arith) (omega arith))
 
 -- Outside the slots and buckets all bytes are as they were.
-pub record Around (s : Shape) (image image′ : List ℕ) : Type 0 where
+pub record Around (layout : Layout) (image image′ : List ℕ) : Type 0 where
   pub size : length image′ ≡ length image
   pub header : (a n : ℕ) → a + n ≤ 256 → part image′ a n ≡ part image a n
-  pub behind : (a n : ℕ) → s .«buckets_offset» + 16 * s .«bucket_count» ≤ a → part image′ a n ≡ part image a n
+  pub behind : (a n : ℕ) → layout .«buckets_offset» + 16 * layout .«bucket_count» ≤ a → part image′ a n ≡ part image a n
 
-pub around-self : {s : Shape} {image : List ℕ} → Around s image image
+pub around-self : {layout : Layout} {image : List ℕ} → Around layout image image
 around-self = record { size = refl; header = λ a n l. refl; behind = λ a n l. refl }
 
-pub around-then : {s : Shape} {image image′ image″ : List ℕ} → Around s image image′ → Around s image′ image″ → Around s image image″
+pub around-then : {layout : Layout} {image image′ image″ : List ℕ} → Around layout image image′ → Around layout image′ image″ → Around layout image image″
 around-then p q =
     record {
       size = q .size ∙ p .size;
@@ -99,32 +100,33 @@ around-then p q =
     }
 
 -- so is every field of the header, and what the header says
-pub around-bytes : {s : Shape} {image image′ : List ℕ} → Around s image image′ → (name : ℕ) → bytesIn image′ name ≡ bytesIn image name
+pub around-bytes : {layout : Layout} {image image′ : List ℕ} → Around layout image image′ → (name : ℕ) → bytesIn image′ name ≡ bytesIn image name
 unfolding bytesIn
 around-bytes k name = k .header (fieldOf name .offset) (fieldOf name .width) (in-header name)
 
-pub around-shape : {s : Shape} {image image′ : List ℕ} → Around s image image′ → shapeOf image′ ≡ shapeOf image
-unfolding shapeOf value
+pub around-shape : {layout : Layout} {image image′ : List ℕ} → Around layout image image′ → shapeOf image′ ≡ shapeOf image
+unfolding shapeOf layoutOf value
 around-shape k =
     let b = around-bytes k in
     rw (b F.key-size, b F.index-size, b F.slot-size, b F.slot-capacity, b F.slot-highwater, b F.live-count, b F.bucket-count, b F.bucket-tombstones, b F.buckets-offset, b F.flags, b F.state, b F.generation) refl
 
--- the shape is still that of the image
-pub around-shaped : {s : Shape} {image image′ : List ℕ} → Around s image image′ → Shaped s image → Shaped s image′
-around-shaped k fit =
+-- the layout is still that of the image, and so is the shape
+pub around-laid : {layout : Layout} {image image′ : List ℕ} → Around layout image image′ → LaidOut layout image → LaidOut layout image′
+around-laid k fit =
     record {
       slot = fit .slot;
       offset = fit .offset;
       inside = omega (arith, fit .inside, k .size);
-      counters = fit .counters;
-      highwater = fit .highwater;
       room = fit .room;
       small = fit .small;
     }
 
-module _ (s : Shape) (image : List ℕ) (fit : Shaped s image) (at : ℕ) (bs : List ℕ) where
+pub around-shaped : {s : Shape} {image image′ : List ℕ} → Around (s .layout) image image′ → Shaped s image → Shaped s image′
+around-shaped k fit = record { laid = around-laid k (fit .laid); counters = fit .counters; highwater = fit .highwater }
+
+module _ (layout : Layout) (image : List ℕ) (fit : LaidOut layout image) (at : ℕ) (bs : List ℕ) where
   -- a put into the slots and buckets
-  pub put-around : 256 ≤ at → at + length bs ≤ s .«buckets_offset» + 16 * s .«bucket_count» → Around s image (put image at bs)
+  pub put-around : 256 ≤ at → at + length bs ≤ layout .«buckets_offset» + 16 * layout .«bucket_count» → Around layout image (put image at bs)
   put-around low high =
       let fits : at + length bs ≤ length image = omega (arith, fit .inside) in
       record {

@@ -11,7 +11,7 @@ use Rattle.digests.specs.Crc.{headerCrc}
 use Rattle.header.specs.declared.shape.Shape.{Shape}
 use Rattle.header.specs.Fields as F
 use Rattle.header.specs.Fields.{bytesIn, value}
-use Rattle.header.specs.HeaderTest.{shapeOf}
+use Rattle.header.specs.HeaderTest.{layoutOf, shapeOf}
 use Rattle.header.specs.Shaped.{Shaped}
 use Rattle.header.specs.Sizes.{bucketsOffset}
 use Rattle.image.specs.Table.{slotAt, bucketAt, bucketOf, tableOf}
@@ -26,19 +26,13 @@ use Rattle.slots.proofs.Table.Lent.{fields-lent}
 use Rattle.slots.proofs.Table.Around.{SameSlot, same-slot, same-bucket}
 
 -- a shape with the counters of another, and the generation moved on
-abbrev pub recounted : Shape → Shape → Shape
-recounted old s =
+abbrev pub countedShape : Shape → Shape → Shape
+countedShape old s =
     record {
-      «key_size» = old .«key_size»;
-      «index_size» = old .«index_size»;
-      «slot_size» = old .«slot_size»;
-      «slot_capacity» = old .«slot_capacity»;
+      layout = old .layout;
       «slot_highwater» = s .«slot_highwater»;
       «live_count» = s .«live_count»;
-      «bucket_count» = old .«bucket_count»;
       «bucket_tombstones» = s .«bucket_tombstones»;
-      «buckets_offset» = old .«buckets_offset»;
-      ordered = old .ordered;
       state = old .state;
       generation = old .generation + 2;
     }
@@ -55,12 +49,12 @@ module _ (s : Shape) (image : List ℕ) (fit : Shaped s image) where
       ∷ []
 
   -- the buckets begin behind the header, which the image holds
-  buckets-behind : 256 ≤ s .«buckets_offset»
+  buckets-behind : 256 ≤ s .layout .«buckets_offset»
   unfolding bucketsOffset
-  buckets-behind = omega (arith, fit .offset)
+  buckets-behind = omega (arith, fit .laid .offset)
 
   pub long : 256 ≤ length image
-  long = omega (arith, buckets-behind, fit .inside)
+  long = omega (arith, buckets-behind, fit .laid .inside)
 
   size : length (withFields image counters) ≡ length image
   size = fields-length counters image long
@@ -85,7 +79,7 @@ module _ (s : Shape) (image : List ℕ) (fit : Shaped s image) where
   module _ (more : value image F.generation + 2 < 2 ^ 64) where
     fitting : Fitting counters
     fitting =
-        let highwater : s .«slot_highwater» < 2 ^ 64 = omega (arith, fit .highwater, fit .room, fit .small) in
+        let highwater : s .«slot_highwater» < 2 ^ 64 = omega (arith, fit .highwater, fit .laid .room, fit .laid .small) in
         let live : s .«live_count» < 2 ^ 64 = omega (arith, fit .counters) in
         (more, (highwater, (live, (live, (omega (arith, fit .counters), tt)))))
 
@@ -94,8 +88,8 @@ module _ (s : Shape) (image : List ℕ) (fit : Shaped s image) where
     unfolding counted published
     counted-value m crc = seal-other (withFields image counters) long′ m crc ∙ fields-value counters image long fitting m
 
-    pub counted-shape : shapeOf (counted s image) ≡ recounted (shapeOf image) s
-    unfolding shapeOf
+    pub counted-shape : shapeOf (counted s image) ≡ countedShape (shapeOf image) s
+    unfolding shapeOf layoutOf
     counted-shape =
         let v = counted-value in
         rw (v F.key-size tt, v F.index-size tt, v F.slot-size tt, v F.slot-capacity tt, v F.slot-highwater tt, v F.live-count tt, v F.bucket-count tt, v F.bucket-tombstones tt, v F.buckets-offset tt, v F.flags tt, v F.state tt, v F.generation tt) refl
@@ -106,14 +100,14 @@ module _ (s : Shape) (image : List ℕ) (fit : Shaped s image) where
   counted-crc h = seal-crc (withFields image counters) long′ (fields-lent counters image h)
 
   -- the slots and the table stay
-  pub counted-slot : (n : ℕ) → SameSlot s image (counted s image) n
+  pub counted-slot : (n : ℕ) → SameSlot (s .layout) image (counted s image) n
   unfolding slotAt
-  counted-slot n = same-slot s image (counted s image) fit n (record { parts = λ a m from to. counted-behind a m (omega arith) })
+  counted-slot n = same-slot (s .layout) image (counted s image) (fit .laid) n (record { parts = λ a m from to. counted-behind a m (omega arith) })
 
-  counted-bucket : (b : ℕ) → bucketOf s (counted s image) b ≡ bucketOf s image b
+  counted-bucket : (b : ℕ) → bucketOf (s .layout) (counted s image) b ≡ bucketOf (s .layout) image b
   unfolding bucketAt
   counted-bucket b =
-      same-bucket s image (counted s image) b (record { parts = λ a m from to. counted-behind a m (omega (arith, from, buckets-behind)) })
+      same-bucket (s .layout) image (counted s image) b (record { parts = λ a m from to. counted-behind a m (omega (arith, from, buckets-behind)) })
 
   pub counted-table : tableOf s (counted s image) ≡ tableOf s image
   unfolding tableOf

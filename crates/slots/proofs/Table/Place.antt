@@ -9,8 +9,7 @@ use Rattle.numbers.specs.Bytes.{word, part}
 use Rattle.digests.specs.Fnv.{fnv1a64}
 use Rattle.probing.specs.Change.{takes, placeFrom, place}
 use Rattle.header.specs.declared.shape.Shape.{Shape}
-use Rattle.image.specs.Table.{bucketAt, bucketFrom, bucketOf, tableOf}
-use Rattle.slots.specs.Slots.{all-ones}
+use Rattle.image.specs.Table.{all-ones, bucketAt, bucketFrom, bucketOf, tableOf}
 
 module _ (s : Shape) (image : List ℕ) where
   -- no buckets left
@@ -20,13 +19,13 @@ module _ (s : Shape) (image : List ℕ) where
 
   module _ (left b : ℕ) (some : 0 < left) where
     abbrev onward : ℕ
-    onward = placeFrom (tableOf s image) (left - 1) ((b + 1) % s .«bucket_count»)
+    onward = placeFrom (tableOf s image) (left - 1) ((b + 1) % s .layout .«bucket_count»)
 
     abbrev slot-plus1 : ℕ
-    slot-plus1 = word (part image (bucketAt s b + 8) 8)
+    slot-plus1 = word (part image (bucketAt (s .layout) b + 8) 8)
 
     -- one bucket, then the rest
-    step : placeFrom (tableOf s image) left b ≡ takes b onward (bucketOf s image b)
+    step : placeFrom (tableOf s image) left b ≡ takes b onward (bucketOf (s .layout) image b)
     unfolding placeFrom tableOf
     step =
         let e : left ≡ suc (left - 1) = omega arith in
@@ -48,6 +47,6 @@ module _ (s : Shape) (image : List ℕ) where
 
   -- the search by a key's hash ends at the key's place
   pub place-by-hash : (key : List ℕ) (hash r : ℕ) → hash ≡ fnv1a64 key
-      → r ≡ placeFrom (tableOf s image) (s .«bucket_count») (hash % s .«bucket_count») → r ≡ place (tableOf s image) key
+      → r ≡ placeFrom (tableOf s image) (s .layout .«bucket_count») (hash % s .layout .«bucket_count») → r ≡ place (tableOf s image) key
   unfolding place tableOf
-  place-by-hash key hash r h e = e ∙ ap (λ (x : ℕ). placeFrom (tableOf s image) (s .«bucket_count») (x % s .«bucket_count»)) h
+  place-by-hash key hash r h e = e ∙ ap (λ (x : ℕ). placeFrom (tableOf s image) (s .layout .«bucket_count») (x % s .layout .«bucket_count»)) h

@@ -28,39 +28,39 @@ use Rattle.slots.proofs.Table.Indexed.{indexed-around, indexed-slot, in
 
 -- The index holds the live slots below n, and all else is as it was.
 pub record Built (s : Shape) (image : List ℕ) (n : ℕ) (image′ : List ℕ) : Type 0 where
-  pub around : Around s image image′
-  pub slots : (m : ℕ) → m < s .«slot_capacity» → SameSlot s image image′ m
+  pub around : Around (s .layout) image image′
+  pub slots : (m : ℕ) → m < s .layout .«slot_capacity» → SameSlot (s .layout) image image′ m
   pub table : clip (tableOf s image′) ≡ change.rebuiltTo (clip (tableOf s image)) n
 
 module _ (s : Shape) (image : List ℕ) (fit : Shaped s image) where
   -- the image with all buckets zero
   abbrev zeros : List ℕ
-  zeros = replicate (16 * s .«bucket_count») 0
+  zeros = replicate (16 * s .layout .«bucket_count») 0
 
   abbrev empty : List ℕ
-  empty = put image (s .«buckets_offset») zeros
+  empty = put image (s .layout .«buckets_offset») zeros
 
-  fits : s .«buckets_offset» + length zeros ≤ length image
-  fits = omega (arith, fit .inside, length-replicate {A = ℕ} (16 * s .«bucket_count») 0)
+  fits : s .layout .«buckets_offset» + length zeros ≤ length image
+  fits = omega (arith, fit .laid .inside, length-replicate {A = ℕ} (16 * s .layout .«bucket_count») 0)
 
-  word-zero : (j : ℕ) → j + 8 ≤ 16 * s .«bucket_count» → word (part empty (s .«buckets_offset» + j) 8) ≡ 0
+  word-zero : (j : ℕ) → j + 8 ≤ 16 * s .layout .«bucket_count» → word (part empty (s .layout .«buckets_offset» + j) 8) ≡ 0
   word-zero j l =
-      ap word (part-put-in image (s .«buckets_offset») zeros fits j 8 (omega (arith, length-replicate {A = ℕ} (16 * s .«bucket_count») 0)))
-      ∙ word-zeros (16 * s .«bucket_count») j l
+      ap word (part-put-in image (s .layout .«buckets_offset») zeros fits j 8 (omega (arith, length-replicate {A = ℕ} (16 * s .layout .«bucket_count») 0)))
+      ∙ word-zeros (16 * s .layout .«bucket_count») j l
 
-  empty-bucket : (b : ℕ) → b < s .«bucket_count» → bucketOf s empty b ≡ EMPTY
+  empty-bucket : (b : ℕ) → b < s .layout .«bucket_count» → bucketOf (s .layout) empty b ≡ EMPTY
   unfolding bucketOf bucketFrom bucketAt
-  empty-bucket b l = rw (add-assoc (s .«buckets_offset») (16 * b) 8, word-zero (16 * b + 8) (omega arith)) refl
+  empty-bucket b l = rw (add-assoc (s .layout .«buckets_offset») (16 * b) 8, word-zero (16 * b + 8) (omega arith)) refl
 
-  empty-slots : (m : ℕ) → m < s .«slot_capacity» → SameSlot s image empty m
-  empty-slots m l = same-slot s image empty fit m (put-before image (s .«buckets_offset») zeros fits _ _ (slot-ends s image fit m l))
+  empty-slots : (m : ℕ) → m < s .layout .«slot_capacity» → SameSlot (s .layout) image empty m
+  empty-slots m l = same-slot (s .layout) image empty (fit .laid) m (put-before image (s .layout .«buckets_offset») zeros fits _ _ (slot-ends (s .layout) image (fit .laid) m l))
 
   built-none : Built s image 0 (rebuiltTo s image 0)
   unfolding rebuiltTo bucketsOffset change.rebuiltTo tableOf
   built-none =
       record {
         around =
-            put-around s image fit (s .«buckets_offset») zeros (omega (arith, fit .offset)) (omega (arith, length-replicate {A = ℕ} (16 * s .«bucket_count») 0));
+            put-around (s .layout) image (fit .laid) (s .layout .«buckets_offset») zeros (omega (arith, fit .laid .offset)) (omega (arith, length-replicate {A = ℕ} (16 * s .layout .«bucket_count») 0));
         slots = empty-slots;
         table =
             agree-clip (tableOf s empty) (change.rebuiltTo (tableOf s image) 0) refl refl refl empty-bucket
@@ -69,7 +69,7 @@ module _ (s : Shape) (image : List ℕ) (fit : Shaped s image) where
       }
 
   -- what slot n does to the table
-  step : (n : ℕ) → n < s .«slot_highwater» → (alive : Bool) → eqb (metaOf s image n) 1 ≡ alive
+  step : (n : ℕ) → n < s .«slot_highwater» → (alive : Bool) → eqb (metaOf (s .layout) image n) 1 ≡ alive
       → change.rebuiltTo (clip (tableOf s image)) (suc n)
       ≡ cond alive (placed (change.rebuiltTo (clip (tableOf s image)) n) n) (change.rebuiltTo (clip (tableOf s image)) n)
   unfolding change.rebuiltTo tableOf
@@ -81,12 +81,12 @@ module _ (s : Shape) (image : List ℕ) (fit : Shaped s image) where
   pub built : (n : ℕ) → n ≤ s .«slot_highwater» → Built s image n (rebuiltTo s image n)
   unfolding rebuiltTo
   built zero l = built-none
-  built (suc n) l = go (eqb (metaOf s image n) 1) refl (built n (omega arith))
+  built (suc n) l = go (eqb (metaOf (s .layout) image n) 1) refl (built n (omega arith))
     where
-      inside : n < s .«slot_capacity»
+      inside : n < s .layout .«slot_capacity»
       inside = omega (arith, fit .highwater)
 
-      go : (alive : Bool) → eqb (metaOf s image n) 1 ≡ alive → Built s image n (rebuiltTo s image n)
+      go : (alive : Bool) → eqb (metaOf (s .layout) image n) 1 ≡ alive → Built s image n (rebuiltTo s image n)
           → Built s image (suc n) (cond alive (indexed s (rebuiltTo s image n) n) (rebuiltTo s image n))
       go true e b =
           let before = rebuiltTo s image n in
@@ -100,18 +100,18 @@ module _ (s : Shape) (image : List ℕ) (fit : Shaped s image) where
 
   -- one slot more, by the meta that the image has by then
   pub rebuilt-more : (n : ℕ) (before : List ℕ) → n < s .«slot_highwater» → before ≡ rebuiltTo s image n
-      → cond (eqb (metaOf s before n) 1) (indexed s before n) before ≡ rebuiltTo s image (n + 1)
+      → cond (eqb (metaOf (s .layout) before n) 1) (indexed s before n) before ≡ rebuiltTo s image (n + 1)
   unfolding rebuiltTo
   rebuilt-more n before l e =
       let meta = built n (omega arith) .slots n (omega (arith, fit .highwater)) .meta in
       rw (add-one, e) (ap (λ (m : ℕ). cond (eqb m 1) (indexed s (rebuiltTo s image n) n) (rebuiltTo s image n)) meta)
 
-  pub rebuilt-around : Around s image (rebuilt s image)
+  pub rebuilt-around : Around (s .layout) image (rebuilt s image)
   unfolding rebuilt
   rebuilt-around = built (s .«slot_highwater») (le-refl _) .around
 
   -- the slots stay
-  pub rebuilt-slot : (m : ℕ) → m < s .«slot_capacity» → SameSlot s image (rebuilt s image) m
+  pub rebuilt-slot : (m : ℕ) → m < s .layout .«slot_capacity» → SameSlot (s .layout) image (rebuilt s image) m
   unfolding rebuilt
   rebuilt-slot = built (s .«slot_highwater») (le-refl _) .slots
 

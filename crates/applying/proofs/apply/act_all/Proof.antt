@@ -9,30 +9,32 @@ use lib.ListN.{length}
 use Rattle.header.specs.Shaped.{Shaped}
 use Rattle.slots.proofs.Table.Around.{around-shaped}
 use Rattle.batch.specs.Batch.{recordCount}
-use Rattle.applying.specs.Apply.{acted, afterLive}
+use Rattle.batch.specs.Marks.{isMarked}
+use Rattle.applying.specs.Apply.{acted, actedTo}
 use Rattle.applying.proofs.Kept.{live-all-kept}
 use Rattle.applying.proofs.apply.act_all.Statement.{statement}
 use Rattle.applying.proofs.apply.act_all.Tie as tie
 
 abbrev Inv-loop : tie.InvT-loop
-Inv-loop image₀ s batch count i₀ image i = (count ≡ recordCount s batch) × (i ≤ count) × (image ≡ afterLive s image₀ batch i)
+Inv-loop image₀ s batch marks count i₀ image i =
+    (count ≡ recordCount (s .layout) batch) × (i ≤ count) × (image ≡ actedTo s (isMarked marks) image₀ batch i)
 
 abbrev μ-loop : tie.MeasureT-loop
-μ-loop image₀ s batch count i₀ image i = count - i
+μ-loop image₀ s batch marks count i₀ image i = count - i
 
 record-count-requires : tie.Need-record-count-requires Inv-loop μ-loop
 record-count-requires c κs = search needs
 
 loop-holds : tie.Need-loop-holds Inv-loop μ-loop
-unfolding afterLive
+unfolding actedTo
 loop-holds c = (search needs, search needs, refl)
 
 act-requires : tie.Need-act-requires Inv-loop μ-loop
 act-requires c κs =
-    let b = c .before .before .before .before .before .before in
+    let b = c .before .before .before .before .before .before .before in
     let a = b .args in
     let l = c .before .before .loop in
-    let kept = live-all-kept (a .s) (a .image .now) (search needs) (a .batch .now) (l .i) (omega arith) in
+    let kept = live-all-kept (a .s) (a .image .now) (search needs) (a .batch .now) (isMarked (a .marks .now)) (l .i) (omega arith) in
     let fit : Shaped (a .s) (l .image) = rw (l .inv .2) (around-shaped kept (search needs)) in
     (fit, search needs)
 
@@ -43,23 +45,23 @@ loop-less : tie.Need-loop-less Inv-loop μ-loop
 loop-less c = search needs
 
 loop-again : tie.Need-loop-again Inv-loop μ-loop
-unfolding afterLive
+unfolding actedTo
 loop-again c =
-    let a = c .before .before .before .before .before .before .before .before .before .args in
+    let a = c .before .before .before .before .before .before .before .before .before .before .args in
     let l = c .before .before .before .before .before .loop in
-    (search needs, search needs, c .before .before .act .ensures ∙ rw add-one (ap (acted (a .s) (a .batch .now) (l .i)) (l .inv .2)))
+    (search needs, search needs, c .before .before .act .ensures ∙ rw add-one (ap (acted (a .s) (isMarked (a .marks .now)) (a .batch .now) (l .i)) (l .inv .2)))
 
 same-length : tie.Need-same-length Inv-loop μ-loop
 same-length c =
-    let a = c .before .before .before .before .before .args in
+    let a = c .before .before .before .before .before .before .args in
     let l = c .before .loop in
-    ap length (l .inv .2) ∙ live-all-kept (a .s) (a .image .now) (search needs) (a .batch .now) (l .i) (omega arith) .size
+    ap length (l .inv .2) ∙ live-all-kept (a .s) (a .image .now) (search needs) (a .batch .now) (isMarked (a .marks .now)) (l .i) (omega arith) .size
 
 returns : tie.Need-returns Inv-loop μ-loop
 returns c =
-    let a = c .before .before .before .before .before .args in
+    let a = c .before .before .before .before .before .before .args in
     let l = c .before .loop in
-    l .inv .2 ∙ ap (afterLive (a .s) (a .image .now) (a .batch .now)) (omega arith)
+    l .inv .2 ∙ ap (actedTo (a .s) (isMarked (a .marks .now)) (a .image .now) (a .batch .now)) (omega arith)
 
 pub act-all-spec : {M : Type 1} → statement M
 act-all-spec =

@@ -14,7 +14,7 @@ use Rattle.applying.proofs.apply.act_on_key.Tie as tie
 -- what the probe of the record's key ends in
 ended : (c : tie.After-probe-for) (r : Probe) → c .probe-for .result ≡ r
     → let a = c .before .before .before .before .before .args in
-    probeOf (a .s) (a .image .now) (keyIn (a .s) (a .r .now)) ≡ heard r
+    probeOf (a .s) (a .image .now) (keyIn (a .s .layout) (a .r .now)) ≡ heard r
 ended c r e =
     let a = c .before .before .before .before .before .args in
     ap (probeOf (a .s) (a .image .now)) (sym (c .before .key-in .ensures)) ∙ told-end r _ (sym e ∙ c .probe-for .ensures)
@@ -31,7 +31,7 @@ enum-known-probed c = search needs
 act-on-slot-requires : tie.Need-act-on-slot-requires
 act-on-slot-requires c κs =
     let b = c .before .before .before .before .before .before .before .before .before in
-    let f = found-facts (b .args .s) (b .args .image .now) (b .pre .0) (keyIn (b .args .s) (b .args .r .now)) _ _ (ended (c .before .before .before .before) _ (c .before .before .probed .given .1)) in
+    let f = found-facts (b .args .s) (b .args .image .now) (b .pre .0) (keyIn (b .args .s .layout) (b .args .r .now)) _ _ (ended (c .before .before .before .before) _ (c .before .before .probed .given .1)) in
     (search needs, (search needs, (f .0, (f .1, f .2))))
 
 enum-known-probed-2 : tie.Need-enum-known-probed-2

@@ -35,7 +35,7 @@ last-bucket-requires c κs = search needs
 remove-requires : tie.Need-remove-requires
 remove-requires c κs =
     let a = c .before .before .before .before .before .before .before .args in
-    let below : c .before .last-bucket .result < a .s .«bucket_count» = rw (c .before .last-bucket .ensures) (mod-lt _ (omega arith)) in
+    let below : c .before .last-bucket .result < a .s .layout .«bucket_count» = rw (c .before .last-bucket .ensures) (mod-lt _ (omega arith)) in
     (search needs, (search needs, below))
 
 same-length-2 : tie.Need-same-length-2
@@ -48,7 +48,7 @@ returns-2 c =
     ∙ delete-live (a .s) (a .image .now) (a .r .now) (a .n) (a .examined)
     (λ e. c .before .before .before .before .before .before .if1 .left (c .before .before .before .before .before .before .before .meta-in .ensures ∙ e)) _
     (c .before .before .before .before .last-bucket .ensures
-    ∙ ap (λ (k : List ℕ). (fnv1a64 k % a .s .«bucket_count» + (a .examined - 1)) % a .s .«bucket_count») (c .before .before .before .before .before .key-in .ensures))
+    ∙ ap (λ (k : List ℕ). (fnv1a64 k % a .s .layout .«bucket_count» + (a .examined - 1)) % a .s .layout .«bucket_count») (c .before .before .before .before .before .key-in .ensures))
 
 pub act-on-slot-spec : {M : Type 1} → statement M
 act-on-slot-spec =

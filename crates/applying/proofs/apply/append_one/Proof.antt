@@ -8,9 +8,10 @@ use Rattle.header.specs.declared.shape.Shape.{Shape}
 use Rattle.header.specs.Shaped.{Shaped}
 use Rattle.slots.specs.Slots.{appended}
 use Rattle.batch.specs.Batch.{recordCount, recordAt}
-use Rattle.batch.specs.News.{markedAt}
+use Rattle.batch.specs.Marks.{markedAt}
 use lib.ListN.{length}
-use Rattle.applying.specs.Apply.{withCounters, withSlots, oneAppended}
+use Rattle.header.specs.Counters.{withCounters, withSlots}
+use Rattle.applying.specs.Prepared.{oneAppended}
 use Rattle.applying.proofs.Kept.{slots-shaped}
 use Rattle.batch.proofs.Records.{record-length}
 use borrow.Author.Needs.{needs}
@@ -33,7 +34,7 @@ record-requires : tie.Need-record-requires
 record-requires c κs =
     let a = c .before .before .before .before .before .before .before .before .args in
     let e = c .before .before .before .marked-at .ensures ∙ ap (λ (n : ℕ). markedAt (a .marks .now) n (a .k)) (c .before .before .before .before .record-count .ensures) in
-    let h : markedAt (a .marks .now) (recordCount (a .s) (a .batch .now)) (a .k) < recordCount (a .s) (a .batch .now) = search needs in
+    let h : markedAt (a .marks .now) (recordCount (a .s .layout) (a .batch .now)) (a .k) < recordCount (a .s .layout) (a .batch .now) = search needs in
     rw e h
 
 append-requires : tie.Need-append-requires
@@ -43,12 +44,12 @@ append-requires c κs =
     let a = b .args in
     let n = a .s .«slot_highwater» + a .k in
     let e = c .before .before .before .before .marked-at .ensures ∙ ap (λ (n : ℕ). markedAt (a .marks .now) n (a .k)) (c .before .before .before .before .before .record-count .ensures) in
-    let h : markedAt (a .marks .now) (recordCount (a .s) (a .batch .now)) (a .k) < recordCount (a .s) (a .batch .now) = search needs in
+    let h : markedAt (a .marks .now) (recordCount (a .s .layout) (a .batch .now)) (a .k) < recordCount (a .s .layout) (a .batch .now) = search needs in
     let fit : Shaped (a .s) (a .image .now) = search needs in
-    let room : n < a .s .«slot_capacity» = search needs in
-    let whole : length (c .«record» .result .now) ≡ a .s .«slot_size» =
-    ap length (c .«record» .ensures ∙ ap (recordAt (a .s) (a .batch .now)) e) ∙ record-length (a .s) (a .batch .now) _ h in
-    subst (λ (t : Shape). Shaped t (a .image .now) × ((t .«slot_highwater» < t .«slot_capacity») × (length (c .«record» .result .now) ≡ t .«slot_size»)))
+    let room : n < a .s .layout .«slot_capacity» = search needs in
+    let whole : length (c .«record» .result .now) ≡ a .s .layout .«slot_size» =
+    ap length (c .«record» .ensures ∙ ap (recordAt (a .s .layout) (a .batch .now)) e) ∙ record-length (a .s .layout) (a .batch .now) _ h in
+    subst (λ (t : Shape). Shaped t (a .image .now) × ((t .«slot_highwater» < t .layout .«slot_capacity») × (length (c .«record» .result .now) ≡ t .layout .«slot_size»)))
     (sym (c .before .with-slots .ensures)) (slots-shaped (a .s) (a .image .now) fit n (omega arith) (omega arith), (room, whole))
 
 same-length : tie.Need-same-length
@@ -61,7 +62,7 @@ returns c =
     let e = c .before .before .before .before .before .before .before .marked-at .ensures ∙ ap (λ (n : ℕ). markedAt (a .marks .now) n (a .k)) (c .before .before .before .before .before .before .before .before .record-count .ensures) in
     c .before .before .append .ensures
     ∙ ap₂ (λ (t : Shape) (r : List ℕ). appended t (a .image .now) r) (c .before .before .before .before .with-slots .ensures)
-    (c .before .before .before .«record» .ensures ∙ ap (recordAt (a .s) (a .batch .now)) e)
+    (c .before .before .before .«record» .ensures ∙ ap (recordAt (a .s .layout) (a .batch .now)) e)
 
 pub append-one-spec : {M : Type 1} → statement M
 append-one-spec =

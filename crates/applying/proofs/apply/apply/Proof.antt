@@ -8,7 +8,9 @@ use Rattle.header.specs.declared.shape.Shape.{Shape}
 use Rattle.header.specs.Shaped.{Shaped}
 use Rattle.slots.proofs.Table.Around.{Around, around-then, around-shaped}
 use Rattle.batch.specs.Batch.{recordCount}
-use Rattle.applying.specs.Apply.{afterLive, appendedTo}
+use Rattle.batch.specs.Marks.{isMarked}
+use Rattle.applying.specs.Apply.{actedTo}
+use Rattle.applying.specs.Prepared.{appendedTo}
 use Rattle.applying.proofs.Kept.{around-generation, slots-shaped, live-all-kept, new-all-kept}
 use Rattle.applying.proofs.Applied.{new-count-bound, marked-below, applied}
 use borrow.Author.Needs.{needs}
@@ -16,19 +18,18 @@ use Rattle.applying.proofs.apply.apply.Statement.{statement}
 use Rattle.applying.proofs.apply.apply.Tie as tie
 
 -- what is kept when all records have acted and all new keys are appended
-kept-all : (b : tie.Start) (one : List ℕ) → one ≡ afterLive (b .args .s) (b .args .image .now) (b .args .batch .now) (recordCount (b .args .s) (b .args .batch .now))
+kept-all : (b : tie.Start) (one : List ℕ) → one ≡ actedTo (b .args .s) (isMarked (b .args .marks .now)) (b .args .image .now) (b .args .batch .now) (recordCount (b .args .s .layout) (b .args .batch .now))
     → (two : List ℕ) → two ≡ appendedTo (b .args .s) (b .args .batch .now) (b .args .marks .now) one (b .args .count)
-    → Around (b .args .s) (b .args .image .now) two
+    → Around (b .args .s .layout) (b .args .image .now) two
 kept-all b one e two d =
     let a = b .args in
-    let n = recordCount (a .s) (a .batch .now) in
-    let marked = b .pre .1 .1 .1 .0 in
-    let new = b .pre .1 .1 .1 .1 in
-    let first : Around (a .s) (a .image .now) one = rw e (live-all-kept (a .s) (a .image .now) (b .pre .0) (a .batch .now) n (omega arith)) in
-    let second : Around (a .s) one two =
+    let n = recordCount (a .s .layout) (a .batch .now) in
+    let ready = b .pre .1 .1 in
+    let first : Around (a .s .layout) (a .image .now) one = rw e (live-all-kept (a .s) (a .image .now) (b .pre .0) (a .batch .now) (isMarked (a .marks .now)) n (omega arith)) in
+    let second : Around (a .s .layout) one two =
     rw d
-    (new-all-kept (a .s) one (around-shaped first (b .pre .0)) (a .batch .now) (a .marks .now) (a .count) (new .1)
-    (λ k l. marked-below (a .s) (a .image .now) (a .batch .now) (a .marks .now) marked k (omega arith)) (a .count) (omega arith)) in
+    (new-all-kept (a .s) one (around-shaped first (b .pre .0)) (a .batch .now) (a .marks .now) (a .count) (ready .room)
+    (λ k l. marked-below (a .s) (a .image .now) (a .batch .now) (a .marks .now) (ready .marked) k (omega (arith, ready .counted))) (a .count) (omega arith)) in
     around-then first second
 
 act-all-requires : tie.Need-act-all-requires
@@ -38,17 +39,16 @@ append-all-requires : tie.Need-append-all-requires
 append-all-requires c κs =
     let b = c .before .before .before .before .before .before .before .before in
     let a = b .args in
-    let n = recordCount (a .s) (a .batch .now) in
+    let n = recordCount (a .s .layout) (a .batch .now) in
     let fit = b .pre .0 in
-    let marked = b .pre .1 .1 .1 .0 in
-    let new = b .pre .1 .1 .1 .1 in
+    let ready = b .pre .1 .1 in
     let here : Shaped (a .s) (c .before .before .before .act-all .last .0) =
-    rw (c .before .before .before .act-all .ensures) (around-shaped (live-all-kept (a .s) (a .image .now) fit (a .batch .now) n (omega arith)) fit) in
+    rw (c .before .before .before .act-all .ensures) (around-shaped (live-all-kept (a .s) (a .image .now) fit (a .batch .now) (isMarked (a .marks .now)) n (omega arith)) fit) in
     let some = new-count-bound (a .s) (a .image .now) (a .batch .now) in (
       here,
       (
-        (omega (arith, marked .size), omega (arith, some)),
-        (new .1, λ k l. marked-below (a .s) (a .image .now) (a .batch .now) (a .marks .now) marked k (omega arith)),
+        (omega (arith, ready .few, ready .marked .size), omega (arith, ready .few, ready .counted, some)),
+        (ready .room, λ k l. marked-below (a .s) (a .image .now) (a .batch .now) (a .marks .now) (ready .marked) k (omega (arith, ready .counted))),
       ),
     )
 
@@ -62,11 +62,11 @@ settle-requires : tie.Need-settle-requires
 settle-requires c κs =
     let b = c .before .before .before .before .before .before .before .before .before .before .before .before .before .before in
     let a = b .args in
-    let new = b .pre .1 .1 .1 .1 in
+    let ready = b .pre .1 .1 in
     let kept = kept-all b (c .before .before .before .before .before .before .before .before .before .act-all .last .0) (c .before .before .before .before .before .before .before .before .before .act-all .ensures) (c .before .before .before .before .before .append-all .last .0) (c .before .before .before .before .before .append-all .ensures) in
     let fit = around-shaped kept (b .pre .0) in (
       subst (λ (t : Shape). Shaped t (c .before .before .before .before .before .append-all .last .0)) (sym (c .with-slots .ensures))
-          (slots-shaped (a .s) _ fit (a .s .«slot_highwater» + a .count) (omega arith) (new .1)),
+          (slots-shaped (a .s) _ fit (a .s .«slot_highwater» + a .count) (omega arith) (ready .room)),
       omega (arith, around-generation kept, b .pre .1 .0),
     )
 
@@ -78,7 +78,7 @@ returns c =
     let b = c .before .before .before .before .before .before .before .before .before .before .before .before .before .before .before .before .before in
     let a = b .args in
     c .before .before .settle .ensures
-    ∙ applied (a .s) (a .image .now) (a .batch .now) (a .marks .now) (b .pre .1 .1 .1 .0) (a .count) (b .pre .1 .1 .1 .1 .0)
+    ∙ applied (a .s) (a .image .now) (a .batch .now) (a .marks .now) (b .pre .1 .1 .marked) (a .count) (b .pre .1 .1 .counted)
     _ (c .before .before .before .before .before .before .before .before .before .before .before .before .act-all .ensures) _ (c .before .before .before .before .before .before .before .before .append-all .ensures) _ (c .before .before .before .with-slots .ensures)
 
 pub apply-spec : {M : Type 1} → statement M

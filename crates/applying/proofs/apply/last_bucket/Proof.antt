@@ -18,13 +18,13 @@ sub-result : tie.Need-sub-result
 sub-result c = search needs
 
 add-result : tie.Need-add-result
-add-result c = omega (arith, mod-lt (c .fnv1a64-of .result) {m = c .before .before .args .s .«bucket_count»} (omega arith))
+add-result c = omega (arith, mod-lt (c .fnv1a64-of .result) {m = c .before .before .args .l .«bucket_count»} (omega arith))
 
 rem-result : tie.Need-rem-result
 rem-result c = search needs
 
 returns : tie.Need-returns
-returns c = let a = c .before .before .args in ap (λ (h : ℕ). (h % a .s .«bucket_count» + (a .examined - 1)) % a .s .«bucket_count») (c .fnv1a64-of .ensures)
+returns c = let a = c .before .before .args in ap (λ (h : ℕ). (h % a .l .«bucket_count» + (a .examined - 1)) % a .l .«bucket_count») (c .fnv1a64-of .ensures)
 
 pub last-bucket-spec : {M : Type 1} → statement M
 last-bucket-spec =

@@ -1,7 +1,7 @@
 -- `applying::apply::with_counters` meets its contract.
 -- Assumes nothing.
 use mathlib.Core.Path.{refl}
-use Rattle.applying.specs.Apply.{withCounters}
+use Rattle.header.specs.Counters.{withCounters}
 use Rattle.applying.proofs.apply.with_counters.Statement.{statement}
 use Rattle.applying.proofs.apply.with_counters.Tie as tie
 

@@ -1,6 +1,6 @@
 -- `applying::apply::with_slots` meets its contract.
 -- Assumes nothing.
-use Rattle.applying.specs.Apply.{withSlots}
+use Rattle.header.specs.Counters.{withSlots}
 use borrow.Author.Needs.{needs}
 use Rattle.applying.proofs.apply.with_slots.Statement.{statement}
 use Rattle.applying.proofs.apply.with_slots.Tie as tie

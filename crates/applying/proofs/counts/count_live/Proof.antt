@@ -19,7 +19,7 @@ use Rattle.applying.proofs.counts.count_live.Tie as tie
 
 -- slot n is live
 abbrev alive : Shape → List ℕ → ℕ → Bool
-alive s image n = eqb (metaOf s image n) 1
+alive s image n = eqb (metaOf (s .layout) image n) 1
 
 abbrev Inv-loop : tie.InvT-loop
 Inv-loop image s highwater sum₀ n₀ sum n = (highwater ≡ s .«slot_highwater») × (n ≤ highwater) × (sum ≡ countTo n (alive s image))
@@ -31,14 +31,14 @@ abbrev μ-loop : tie.MeasureT-loop
 added : (c : tie.After-one-if Inv-loop μ-loop)
     → let a = c .before .before .before .before .before .args in
     c .one-if .result ≡ one (alive (a .s) (a .image .now) (c .before .before .before .loop .n))
-added c = c .one-if .ensures ∙ ap (λ (m : ℕ). one (eqb m 1)) (c .before .meta-at .ensures)
+added c = c .one-if .ensures ∙ ap (λ (m : ℕ). one (eqb m 1)) (c .before .meta-of .ensures)
 
 loop-holds : tie.Need-loop-holds Inv-loop μ-loop
 unfolding countTo sumTo
 loop-holds c = (search needs, search needs, refl)
 
-meta-at-requires : tie.Need-meta-at-requires Inv-loop μ-loop
-meta-at-requires c κs = search needs
+meta-of-requires : tie.Need-meta-of-requires Inv-loop μ-loop
+meta-of-requires c κs = search needs
 
 one-if-requires : tie.Need-one-if-requires Inv-loop μ-loop
 one-if-requires c κs = search needs
@@ -75,7 +75,7 @@ count-live-spec =
     Inv-loop
     μ-loop
     loop-holds
-    meta-at-requires
+    meta-of-requires
     one-if-requires
     add-sum
     add-n

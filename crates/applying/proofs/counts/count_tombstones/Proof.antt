@@ -20,10 +20,10 @@ use Rattle.applying.proofs.counts.count_tombstones.Tie as tie
 
 -- bucket b is a TOMBSTONE
 abbrev gone : Shape → List ℕ → ℕ → Bool
-gone s image b = isTombstone (bucketOf s image b)
+gone s image b = isTombstone (bucketOf (s .layout) image b)
 
 abbrev Inv-loop : tie.InvT-loop
-Inv-loop image s count sum₀ b₀ sum b = (count ≡ s .«bucket_count») × (b ≤ count) × (sum ≡ countTo b (gone s image))
+Inv-loop image s count sum₀ b₀ sum b = (count ≡ s .layout .«bucket_count») × (b ≤ count) × (sum ≡ countTo b (gone s image))
 
 abbrev μ-loop : tie.MeasureT-loop
 μ-loop image s count sum₀ b₀ sum b = count - b
@@ -34,15 +34,15 @@ added : (c : tie.After-one-if Inv-loop μ-loop)
     c .one-if .result ≡ one (gone (a .s) (a .image .now) (c .before .before .before .loop .b))
 added c =
     let a = c .before .before .before .before .before .args in
-    c .one-if .ensures ∙ ap (λ (m : ℕ). one (eqb m 18446744073709551615)) (c .before .slot-plus1-at .ensures)
+    c .one-if .ensures ∙ ap (λ (m : ℕ). one (eqb m 18446744073709551615)) (c .before .slot-plus1-of .ensures)
     ∙ ap one (is-tombstone (a .s) (a .image .now) (c .before .before .before .loop .b))
 
 loop-holds : tie.Need-loop-holds Inv-loop μ-loop
 unfolding countTo sumTo
 loop-holds c = (search needs, search needs, refl)
 
-slot-plus1-at-requires : tie.Need-slot-plus1-at-requires Inv-loop μ-loop
-slot-plus1-at-requires c κs = search needs
+slot-plus1-of-requires : tie.Need-slot-plus1-of-requires Inv-loop μ-loop
+slot-plus1-of-requires c κs = search needs
 
 one-if-requires : tie.Need-one-if-requires Inv-loop μ-loop
 one-if-requires c κs = search needs
@@ -79,7 +79,7 @@ count-tombstones-spec =
     Inv-loop
     μ-loop
     loop-holds
-    slot-plus1-at-requires
+    slot-plus1-of-requires
     one-if-requires
     add-sum
     add-b

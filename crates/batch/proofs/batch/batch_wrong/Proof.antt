@@ -9,7 +9,7 @@ use Rattle.batch.proofs.batch.batch_wrong.Statement.{statement}
 use Rattle.batch.proofs.batch.batch_wrong.Tie as tie
 
 rem-if1 : tie.Need-rem-if1
-rem-if1 c = omega (arith, sizes (c .before .before .args .s) (c .before .before .pre))
+rem-if1 c = omega (arith, sizes (c .before .before .args .l) (c .before .before .pre))
 
 returns : tie.Need-returns
 unfolding batchWrong
@@ -20,14 +20,14 @@ record-count-requires c κs = search needs
 
 returns-2 : tie.Need-returns-2
 unfolding batchWrong
-returns-2 c = rw (eq-eqb _ 0 (c .before .before .if1 .left), lt-ltb 64 (recordCount (c .before .before .before .before .before .args .s) (c .before .before .before .before .before .args .batch .now)) (omega arith))
+returns-2 c = rw (eq-eqb _ 0 (c .before .before .if1 .left), lt-ltb 64 (recordCount (c .before .before .before .before .before .args .l) (c .before .before .before .before .before .args .batch .now)) (omega arith))
 
 some-malformed-requires : tie.Need-some-malformed-requires
 some-malformed-requires c κs = search needs
 
 returns-3 : tie.Need-returns-3
 unfolding batchWrong
-returns-3 c = rw (eq-eqb _ 0 (c .before .before .before .if1 .left), le-ltb 64 (recordCount (c .before .before .before .before .before .before .args .s) (c .before .before .before .before .before .before .args .batch .now)) (omega arith)) (c .some-malformed .ensures)
+returns-3 c = rw (eq-eqb _ 0 (c .before .before .before .if1 .left), le-ltb 64 (recordCount (c .before .before .before .before .before .before .args .l) (c .before .before .before .before .before .before .args .batch .now)) (omega arith)) (c .some-malformed .ensures)
 
 pub batch-wrong-spec : {M : Type 1} → statement M
 batch-wrong-spec =

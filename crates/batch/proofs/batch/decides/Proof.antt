@@ -1,4 +1,4 @@
--- `batch::batch::decides` meets its contract. The loop's invariant: no record so far is a later one with the key of record i.
+-- `batch::batch::decides` meets its contract. The loop'l invariant: no record so far is a later one with the key of record i.
 -- Assumes nothing.
 use borrow.Author.Needs.{needs}
 use Prim.Native.Nat.{ℕ, _-_, _≤_, _<_}
@@ -7,37 +7,37 @@ use mathlib.Core.Bool.{Bool, true, not, _&&_}
 use mathlib.Core.List.{List}
 use borrow.Author.Tests.{lt-ltb, le-ltb}
 use native.Mathlib.Omega.{arith}
-use Rattle.header.specs.declared.shape.Shape.{Shape}
+use Rattle.header.specs.declared.shape.Layout.{Layout}
 use Rattle.probing.specs.Counting.{allTo}
 use lib.Dec.{ltb}
 use Rattle.numbers.specs.Bytes.{same}
 use Rattle.probing.proofs.Counting.{all-of}
-use Rattle.batch.specs.Batch.{recordCount, keyAt, decides}
+use Rattle.batch.specs.Batch.{recordCount, recordKey, decides}
 use Rattle.batch.proofs.Every.{every-more, every-fails}
 use Rattle.batch.proofs.batch.decides.Statement.{statement}
 use Rattle.batch.proofs.batch.decides.Tie as tie
 
 -- record j is not a later one with the key of record i
-apart : Shape → List ℕ → ℕ → ℕ → Bool
-apart s batch i j = not (ltb i j && same (keyAt s batch j) (keyAt s batch i))
+apart : Layout → List ℕ → ℕ → ℕ → Bool
+apart l batch i j = not (ltb i j && same (recordKey l batch j) (recordKey l batch i))
 
 -- a record up to i is none
-earlier : (s : Shape) (batch : List ℕ) (i j : ℕ) → j ≤ i → apart s batch i j ≡ true
+earlier : (l : Layout) (batch : List ℕ) (i j : ℕ) → j ≤ i → apart l batch i j ≡ true
 unfolding apart
-earlier s batch i j h = rw (le-ltb i j h)
+earlier l batch i j h = rw (le-ltb i j h)
 
 abbrev Inv-loop : tie.InvT-loop
-Inv-loop batch s i count j₀ j = (count ≡ recordCount s batch) × (i < j) × (j ≤ count) × (allTo j (apart s batch i) ≡ true)
+Inv-loop batch l i count j₀ j = (count ≡ recordCount l batch) × (i < j) × (j ≤ count) × (allTo j (apart l batch i) ≡ true)
 
 abbrev μ-loop : tie.MeasureT-loop
-μ-loop batch s i count j₀ j = count - j
+μ-loop batch l i count j₀ j = count - j
 
 -- the keys compared are those of records j and i
 compared : (c : tie.After-same-bytes Inv-loop μ-loop)
     → let a = c .before .before .before .before .before .before .before .args in
     let j = c .before .before .before .before .loop .j in
-    c .same-bytes .result ≡ same (keyAt (a .s) (a .batch .now) j) (keyAt (a .s) (a .batch .now) (a .i))
-compared c = c .same-bytes .ensures ∙ ap₂ same (c .before .before .key-of .ensures) (c .before .key-of2 .ensures)
+    c .same-bytes .result ≡ same (recordKey (a .l) (a .batch .now) j) (recordKey (a .l) (a .batch .now) (a .i))
+compared c = c .same-bytes .ensures ∙ ap₂ same (c .before .before .record-key .ensures) (c .before .record-key2 .ensures)
 
 record-count-requires : tie.Need-record-count-requires Inv-loop μ-loop
 record-count-requires c κs = search needs
@@ -46,13 +46,13 @@ add-j : tie.Need-add-j Inv-loop μ-loop
 add-j c = search needs
 
 loop-holds : tie.Need-loop-holds Inv-loop μ-loop
-loop-holds c = (search needs, search needs, search needs, all-of _ _ (λ k l. earlier (c .before .before .args .s) (c .before .before .args .batch .now) (c .before .before .args .i) k (omega arith)))
+loop-holds c = (search needs, search needs, search needs, all-of _ _ (λ k l. earlier (c .before .before .args .l) (c .before .before .args .batch .now) (c .before .before .args .i) k (omega arith)))
 
-key-of-requires : tie.Need-key-of-requires Inv-loop μ-loop
-key-of-requires c κs = search needs
+record-key-requires : tie.Need-record-key-requires Inv-loop μ-loop
+record-key-requires c κs = search needs
 
-key-of-requires-2 : tie.Need-key-of-requires-2 Inv-loop μ-loop
-key-of-requires-2 c κs = search needs
+record-key-requires-2 : tie.Need-record-key-requires-2 Inv-loop μ-loop
+record-key-requires-2 c κs = search needs
 
 same-bytes-requires : tie.Need-same-bytes-requires Inv-loop μ-loop
 same-bytes-requires c κs = search needs
@@ -63,7 +63,7 @@ returns c =
     let a = c .before .before .before .before .before .before .before .before .args in
     let l = c .before .before .before .before .before .loop in
     sym
-    (every-fails (apart (a .s) (a .batch .now) (a .i)) (recordCount (a .s) (a .batch .now)) (l .j) (search needs)
+    (every-fails (apart (a .l) (a .batch .now) (a .i)) (recordCount (a .l) (a .batch .now)) (l .j) (search needs)
     (rw (lt-ltb (a .i) (l .j) (l .inv .1), ← compared (c .before), c .if1 .taken)))
 
 add-j-2 : tie.Need-add-j-2 Inv-loop μ-loop
@@ -80,7 +80,7 @@ loop-again c =
       search needs,
       search needs,
       search needs,
-      every-more (apart (a .s) (a .batch .now) (a .i)) (l .j) (l .inv .3)
+      every-more (apart (a .l) (a .batch .now) (a .i)) (l .j) (l .inv .3)
           (rw (lt-ltb (a .i) (l .j) (l .inv .1), ← compared (c .before), c .if1 .left)),
     )
 
@@ -89,7 +89,7 @@ unfolding decides apart
 returns-2 c =
     let a = c .before .before .before .before .args in
     let l = c .before .loop in
-    sym (ap (λ (n : ℕ). allTo n (apart (a .s) (a .batch .now) (a .i))) (omega arith) ∙ l .inv .3)
+    sym (ap (λ (n : ℕ). allTo n (apart (a .l) (a .batch .now) (a .i))) (omega arith) ∙ l .inv .3)
 
 pub decides-spec : {M : Type 1} → statement M
 decides-spec =
@@ -100,8 +100,8 @@ decides-spec =
     record-count-requires
     add-j
     loop-holds
-    key-of-requires
-    key-of-requires-2
+    record-key-requires
+    record-key-requires-2
     same-bytes-requires
     returns
     add-j-2

@@ -7,7 +7,7 @@ use Rattle.batch.proofs.batch.meta_in.Statement.{statement}
 use Rattle.batch.proofs.batch.meta_in.Tie as tie
 
 u64-at-requires : tie.Need-u64-at-requires
-u64-at-requires c κs = omega (arith, sizes (c .before .args .s) (c .before .pre .0), c .before .pre .1)
+u64-at-requires c κs = omega (arith, sizes (c .before .args .l) (c .before .pre .0), c .before .pre .1)
 
 returns : tie.Need-returns
 unfolding metaIn

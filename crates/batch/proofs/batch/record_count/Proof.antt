@@ -8,7 +8,7 @@ use Rattle.batch.proofs.batch.record_count.Statement.{statement}
 use Rattle.batch.proofs.batch.record_count.Tie as tie
 
 div-result : tie.Need-div-result
-div-result c = omega (arith, sizes (c .before .args .s) (c .before .pre))
+div-result c = omega (arith, sizes (c .before .args .l) (c .before .pre))
 
 returns : tie.Need-returns
 unfolding recordCount

@@ -7,10 +7,10 @@ use Rattle.batch.proofs.batch.revision_in.Statement.{statement}
 use Rattle.batch.proofs.batch.revision_in.Tie as tie
 
 align8-requires : tie.Need-align8-requires
-align8-requires c κs = omega (arith, sizes (c .args .s) (c .pre))
+align8-requires c κs = omega (arith, sizes (c .args .l) (c .pre))
 
 add-result : tie.Need-add-result
-add-result c = omega (arith, c .align8 .ensures, sizes (c .before .args .s) (c .before .pre))
+add-result c = omega (arith, c .align8 .ensures, sizes (c .before .args .l) (c .before .pre))
 
 returns : tie.Need-returns
 returns c = search needs

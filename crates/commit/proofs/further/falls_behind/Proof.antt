@@ -7,7 +7,8 @@ use mathlib.Core.Bool.{true, not, _&&_}
 use native.Mathlib.Omega.{arith}
 use lib.Dec.{eqb}
 use lib.ListN.{getD}
-use Rattle.batch.proofs.Marks.{told-new}
+use Rattle.image.specs.Lookup.{isLive}
+use Rattle.batch.proofs.Marks.{flag-new}
 use Rattle.batch.specs.Batch.{recordCount}
 use Rattle.numbers.specs.Bytes.{below}
 use Rattle.probing.specs.Counting.{allTo}
@@ -18,21 +19,21 @@ use Rattle.commit.proofs.further.falls_behind.Statement.{statement}
 use Rattle.commit.proofs.further.falls_behind.Tie as tie
 
 abbrev Inv-loop : tie.InvT-loop
-Inv-loop image s batch news count last i₀ i = (count ≡ recordCount s batch) × (i ≤ count) × (allTo i (keeps s image batch) ≡ true)
+Inv-loop image s batch flags count last i₀ i = (count ≡ recordCount (s .layout) batch) × (i ≤ count) × (allTo i (keeps s image batch) ≡ true)
 
 abbrev μ-loop : tie.MeasureT-loop
-μ-loop image s batch news count last i₀ i = count - i
+μ-loop image s batch flags count last i₀ i = count - i
 
 -- the test made on record i
 tested : (c : tie.After-comes-before Inv-loop μ-loop)
     → let a = c .before .before .before .before .before .before .before .before .before .before .before .before .before .before .args in
     let i = c .before .before .before .before .loop .i in
-    keeps (a .s) (a .image .now) (a .batch .now) i ≡ not (eqb (getD (a .news .now) i 0) 1 && c .comes-before .result)
+    keeps (a .s) (a .image .now) (a .batch .now) i ≡ not (eqb (getD (a .flags .now) i 0) 1 && c .comes-before .result)
 tested c =
     let a = c .before .before .before .before .before .before .before .before .before .before .before .before .before .before .args in
     let i = c .before .before .before .before .loop .i in
-    let new = told-new (a .s) (a .image .now) (a .batch .now) (a .news .now) (search needs) i (search needs) in
-    let before = c .comes-before .ensures ∙ ap₂ below (c .before .before .key-of .ensures) (c .before .key-part .ensures) in
+    let new = flag-new (a .s .layout) (isLive (a .s) (a .image .now)) (a .batch .now) (a .flags .now) (c .before .before .before .before .before .before .before .before .before .before .before .before .before .before .pre .1 .1) i (search needs) in
+    let before = c .comes-before .ensures ∙ ap₂ below (c .before .before .record-key .ensures) (c .before .key-of .ensures) in
     ap not (ap₂ _&&_ (sym new) (sym before))
 
 returns : tie.Need-returns Inv-loop μ-loop
@@ -55,23 +56,25 @@ loop-holds : tie.Need-loop-holds Inv-loop μ-loop
 unfolding allTo
 loop-holds c = (search needs, search needs, refl)
 
+record-key-requires : tie.Need-record-key-requires Inv-loop μ-loop
+record-key-requires c κs = search needs
+
 key-of-requires : tie.Need-key-of-requires Inv-loop μ-loop
 key-of-requires c κs = search needs
-
-key-part-requires : tie.Need-key-part-requires Inv-loop μ-loop
-key-part-requires c κs = search needs
 
 comes-before-requires : tie.Need-comes-before-requires Inv-loop μ-loop
 comes-before-requires c κs = search needs
 
 shared-slice-read-if3 : tie.Need-shared-slice-read-if3 Inv-loop μ-loop
-shared-slice-read-if3 c = search needs
+shared-slice-read-if3 c =
+    let b = c .before .before .before .before .before .before .before .before .before .before .before .before .before .before .before in
+    omega (arith, b .pre .1 .1 .size, b .pre .1 .0, c .before .before .before .before .before .loop .inv)
 
 returns-3 : tie.Need-returns-3 Inv-loop μ-loop
 returns-3 c =
     let a = c .before .before .before .before .before .before .before .before .before .before .before .before .before .before .before .before .args in
     let l = c .before .before .before .before .before .before .loop in
-    behind-by-keys (a .s) (a .image .now) (a .batch .now) (not-false _ (c .before .before .before .before .before .before .before .before .before .before .before .if1 .left)) (c .before .before .before .before .before .before .before .before .before .if2 .left) (every-fails (keeps (a .s) (a .image .now) (a .batch .now)) (recordCount (a .s) (a .batch .now)) (l .i) (search needs) (tested (c .before .before) ∙ ap not (c .if3 .taken)))
+    behind-by-keys (a .s) (a .image .now) (a .batch .now) (not-false _ (c .before .before .before .before .before .before .before .before .before .before .before .if1 .left)) (c .before .before .before .before .before .before .before .before .before .if2 .left) (every-fails (keeps (a .s) (a .image .now) (a .batch .now)) (recordCount (a .s .layout) (a .batch .now)) (l .i) (search needs) (tested (c .before .before) ∙ ap not (c .if3 .taken)))
 
 add-i : tie.Need-add-i Inv-loop μ-loop
 add-i c = search needs
@@ -102,8 +105,8 @@ falls-behind-spec =
     record-count-requires
     sub-last
     loop-holds
+    record-key-requires
     key-of-requires
-    key-part-requires
     comes-before-requires
     shared-slice-read-if3
     returns-3

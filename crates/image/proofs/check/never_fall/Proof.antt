@@ -19,7 +19,7 @@ use Rattle.image.proofs.check.never_fall.Tie as tie
 
 -- the key of slot n + 1 does not come before that of slot n
 holds : Shape → List ℕ → ℕ → Bool
-holds s image n = not (below (keyOf s image (n + 1)) (keyOf s image n))
+holds s image n = not (below (keyOf (s .layout) image (n + 1)) (keyOf (s .layout) image n))
 
 abbrev Inv-loop : tie.InvT-loop
 Inv-loop image s highwater n₀ n = (highwater ≡ s .«slot_highwater») × (n ≤ highwater - 1) × (allTo n (holds s image) ≡ true)
@@ -28,7 +28,7 @@ abbrev μ-loop : tie.MeasureT-loop
 μ-loop image s highwater n₀ n = highwater - n
 
 -- where a key comes before the one before it, keys fall
-fell : (s : Shape) (image : List ℕ) (n : ℕ) → n < s .«slot_highwater» - 1 → below (keyOf s image (n + 1)) (keyOf s image n) ≡ true → false ≡ neverFall (tableOf s image)
+fell : (s : Shape) (image : List ℕ) (n : ℕ) → n < s .«slot_highwater» - 1 → below (keyOf (s .layout) image (n + 1)) (keyOf (s .layout) image n) ≡ true → false ≡ neverFall (tableOf s image)
 unfolding neverFall tableOf holds
 fell s image n l e = sym (not-true-false _ (λ a. not-both (all-at (s .«slot_highwater» - 1) (holds s image) a n l) (ap not e)))
 
@@ -36,8 +36,8 @@ fell s image n l e = sym (not-true-false _ (λ a. not-both (all-at (s .«slot_hi
 compared : (c : tie.After-comes-before Inv-loop μ-loop)
     → let a = c .before .before .before .before .before .before .args in
     let n = c .before .before .before .before .loop .n in
-    c .comes-before .result ≡ below (keyOf (a .s) (a .image .now) (n + 1)) (keyOf (a .s) (a .image .now) n)
-compared c = c .comes-before .ensures ∙ ap₂ below (c .before .before .key-part .ensures) (c .before .key-part2 .ensures)
+    c .comes-before .result ≡ below (keyOf (a .s .layout) (a .image .now) (n + 1)) (keyOf (a .s .layout) (a .image .now) n)
+compared c = c .comes-before .ensures ∙ ap₂ below (c .before .before .key-of .ensures) (c .before .key-of2 .ensures)
 
 loop-holds : tie.Need-loop-holds Inv-loop μ-loop
 unfolding allTo
@@ -46,14 +46,14 @@ loop-holds c = (search needs, search needs, refl)
 add-loop : tie.Need-add-loop Inv-loop μ-loop
 add-loop c = search needs
 
-add-key-part : tie.Need-add-key-part Inv-loop μ-loop
-add-key-part c = search needs
+add-key-of : tie.Need-add-key-of Inv-loop μ-loop
+add-key-of c = search needs
 
-key-part-requires : tie.Need-key-part-requires Inv-loop μ-loop
-key-part-requires c κs = search needs
+key-of-requires : tie.Need-key-of-requires Inv-loop μ-loop
+key-of-requires c κs = search needs
 
-key-part-requires-2 : tie.Need-key-part-requires-2 Inv-loop μ-loop
-key-part-requires-2 c κs = search needs
+key-of-requires-2 : tie.Need-key-of-requires-2 Inv-loop μ-loop
+key-of-requires-2 c κs = search needs
 
 comes-before-requires : tie.Need-comes-before-requires Inv-loop μ-loop
 comes-before-requires c κs = search needs
@@ -90,9 +90,9 @@ never-fall-spec =
     μ-loop
     loop-holds
     add-loop
-    add-key-part
-    key-part-requires
-    key-part-requires-2
+    add-key-of
+    key-of-requires
+    key-of-requires-2
     comes-before-requires
     returns
     add-n

@@ -11,7 +11,7 @@ use Rattle.image.proofs.check.read_buckets.Statement.{statement}
 use Rattle.image.proofs.check.read_buckets.Tie as tie
 
 abbrev Inv-loop : tie.InvT-loop
-Inv-loop image s count tally₀ b₀ tally b = (count ≡ s .«bucket_count») × (b ≤ count) × (tally ≡ bucketsTo (tableOf s image) b)
+Inv-loop image s count tally₀ b₀ tally b = (count ≡ s .layout .«bucket_count») × (b ≤ count) × (tally ≡ bucketsTo (tableOf s image) b)
 
 abbrev μ-loop : tie.MeasureT-loop
 μ-loop image s count tally₀ b₀ tally b = count - b

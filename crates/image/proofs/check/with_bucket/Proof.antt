@@ -12,15 +12,15 @@ use Rattle.image.proofs.Tally.{more-empty, more-tombstone, more-full, t
 use Rattle.image.proofs.check.with_bucket.Statement.{statement}
 use Rattle.image.proofs.check.with_bucket.Tie as tie
 
-slot-plus1-at-requires : tie.Need-slot-plus1-at-requires
-slot-plus1-at-requires c κs = search needs
+slot-plus1-of-requires : tie.Need-slot-plus1-of-requires
+slot-plus1-of-requires c κs = search needs
 
 returns : tie.Need-returns
 unfolding tableOf bucketOf
 returns c =
     let b = c .before .before .before in
     let a = b .args in
-    more-empty (tableOf (a .s) (a .image .now)) (a .b) (a .tally) (b .pre .1 .1) (from-empty _ _ (sym (c .before .slot-plus1-at .ensures) ∙ c .if1 .taken))
+    more-empty (tableOf (a .s) (a .image .now)) (a .b) (a .tally) (b .pre .1 .1) (from-empty _ _ (sym (c .before .slot-plus1-of .ensures) ∙ c .if1 .taken))
 
 add-t9 : tie.Need-add-t9
 add-t9 c =
@@ -32,10 +32,10 @@ unfolding tableOf bucketOf
 returns-2 c =
     let b = c .before .before .before .before .before in
     let a = b .args in
-    more-tombstone (tableOf (a .s) (a .image .now)) (a .b) (a .tally) (b .pre .1 .1) (from-tombstone _ _ (sym (c .before .before .before .slot-plus1-at .ensures) ∙ c .before .if2 .taken))
+    more-tombstone (tableOf (a .s) (a .image .now)) (a .b) (a .tally) (b .pre .1 .1) (from-tombstone _ _ (sym (c .before .before .before .slot-plus1-of .ensures) ∙ c .before .if2 .taken))
 
-hash64-at-requires : tie.Need-hash64-at-requires
-hash64-at-requires c κs = search needs
+hash64-of-requires : tie.Need-hash64-of-requires
+hash64-of-requires c κs = search needs
 
 sub-full-right : tie.Need-sub-full-right
 sub-full-right c = search needs
@@ -53,20 +53,20 @@ unfolding tableOf bucketOf
 returns-3 c =
     let b = c .before .before .before .before .before .before .before .before in
     let a = b .args in
-    let plus1 = c .before .before .before .before .before .before .slot-plus1-at in
+    let plus1 = c .before .before .before .before .before .before .slot-plus1-of in
     let full = from-full _ _ (λ e. c .before .before .before .before .before .if1 .left (plus1 .ensures ∙ e)) (λ e. c .before .before .before .before .if2 .left (plus1 .ensures ∙ e)) in
     ap (λ (x : Bool). record { right = a .tally .right && x; full = a .tally .full + 1; tombstones = a .tally .tombstones }) (c .before .before .full-right .ensures)
-    ∙ more-full (tableOf (a .s) (a .image .now)) (a .b) (a .tally) (b .pre .1 .1) _ _ (full ∙ sym (ap₂ (λ (h n : ℕ). FULL h (n - 1)) (c .before .before .before .hash64-at .ensures) (plus1 .ensures)))
+    ∙ more-full (tableOf (a .s) (a .image .now)) (a .b) (a .tally) (b .pre .1 .1) _ _ (full ∙ sym (ap₂ (λ (h n : ℕ). FULL h (n - 1)) (c .before .before .before .hash64-of .ensures) (plus1 .ensures)))
 
 pub with-bucket-spec : {M : Type 1} → statement M
 with-bucket-spec =
     tie.close
     (tie.spec
-    slot-plus1-at-requires
+    slot-plus1-of-requires
     returns
     add-t9
     returns-2
-    hash64-at-requires
+    hash64-of-requires
     sub-full-right
     full-right-requires
     add-t11

@@ -13,43 +13,43 @@ use Rattle.image.proofs.check.with_slot.Statement.{statement}
 use Rattle.image.proofs.check.with_slot.Tie as tie
 
 -- the slot is live
-alive : (c : tie.Else2) → let a = c .before .before .before .before .args in metaOf (a .s) (a .image .now) (a .n) ≡ 1
-alive c = sym (c .before .before .meta-at .ensures) ∙ c .if2 .left
+alive : (c : tie.Else2) → let a = c .before .before .before .before .args in metaOf (a .s .layout) (a .image .now) (a .n) ≡ 1
+alive c = sym (c .before .before .meta-of .ensures) ∙ c .if2 .left
 
 -- the probe is of the slot's key
 probed : (c : tie.After-probe-for)
     → let a = c .before .before .before .before .before .before .before .args in
-    c .probe-for .result ≡ told (probe (tableOf (a .s) (a .image .now)) (keyOf (a .s) (a .image .now) (a .n)))
+    c .probe-for .result ≡ told (probe (tableOf (a .s) (a .image .now)) (keyOf (a .s .layout) (a .image .now) (a .n)))
 unfolding probeOf
 probed c =
     let a = c .before .before .before .before .before .before .before .args in
-    c .probe-for .ensures ∙ ap (λ (k : List ℕ). told (probe (tableOf (a .s) (a .image .now)) k)) (c .before .key-part .ensures)
+    c .probe-for .ensures ∙ ap (λ (k : List ℕ). told (probe (tableOf (a .s) (a .image .now)) k)) (c .before .key-of .ensures)
 
 -- one more lookup count can be added to the sum
-summed : (c : tie.After-probe-for) → let a = c .before .before .before .before .before .before .before .args in a .tally .probes + a .s .«bucket_count» < 2 ^ 64
+summed : (c : tie.After-probe-for) → let a = c .before .before .before .before .before .before .before .args in a .tally .probes + a .s .layout .«bucket_count» < 2 ^ 64
 unfolding tableOf
 summed c =
     let b = c .before .before .before .before .before .before .before in
     let a = b .args in
     let fit = b .pre .0 in
-    omega (arith, fit .small, fit .room, fit .highwater, b .pre .1 .0, probes-small (tableOf (a .s) (a .image .now)) (a .n) (a .tally) (b .pre .1 .1) (fit .small))
+    omega (arith, fit .laid .small, fit .laid .room, fit .highwater, b .pre .1 .0, probes-small (tableOf (a .s) (a .image .now)) (a .n) (a .tally) (b .pre .1 .1) (fit .laid .small))
 
-meta-at-requires : tie.Need-meta-at-requires
-meta-at-requires c κs = search needs
+meta-of-requires : tie.Need-meta-of-requires
+meta-of-requires c κs = search needs
 
 returns : tie.Need-returns
 unfolding tableOf
 returns c =
     let b = c .before .before .before in
     let a = b .args in
-    more-deleted (tableOf (a .s) (a .image .now)) (a .n) (a .tally) (b .pre .1 .1) (sym (c .before .meta-at .ensures) ∙ c .if1 .taken)
+    more-deleted (tableOf (a .s) (a .image .now)) (a .n) (a .tally) (b .pre .1 .1) (sym (c .before .meta-of .ensures) ∙ c .if1 .taken)
 
 returns-2 : tie.Need-returns-2
 unfolding tableOf
 returns-2 c =
     let b = c .before .before .before .before in
     let a = b .args in
-    let meta = c .before .before .meta-at .ensures in
+    let meta = c .before .before .meta-of .ensures in
     more-unknown (tableOf (a .s) (a .image .now)) (a .n) (a .tally) (b .pre .1 .1) (λ e. c .before .if1 .left (meta ∙ e)) (λ e. c .if2 .taken (meta ∙ e))
 
 add-live : tie.Need-add-live
@@ -58,8 +58,8 @@ add-live c =
     let a = b .args in
     omega (arith, live-small (tableOf (a .s) (a .image .now)) (a .n) (a .tally) (b .pre .1 .1))
 
-key-part-requires : tie.Need-key-part-requires
-key-part-requires c κs = search needs
+key-of-requires : tie.Need-key-of-requires
+key-of-requires c κs = search needs
 
 probe-for-requires : tie.Need-probe-for-requires
 probe-for-requires c κs = search needs
@@ -109,11 +109,11 @@ pub with-slot-spec : {M : Type 1} → statement M
 with-slot-spec =
     tie.close
     (tie.spec
-    meta-at-requires
+    meta-of-requires
     returns
     returns-2
     add-live
-    key-part-requires
+    key-of-requires
     probe-for-requires
     enum-known-p
     add-t17

@@ -38,20 +38,20 @@ enum-known-judged c = search needs
 lookup-in-requires : tie.Need-lookup-in-requires
 lookup-in-requires c κs = shaped c
 
-slot-index-requires : tie.Need-slot-index-requires
-slot-index-requires c κs =
+index-of-requires : tie.Need-index-of-requires
+index-of-requires c κs =
     let a = c .before .before .before .before .before .before .before .before .before .args in
     let s = c .before .before .before .before .judged .given .0 .0 in
     let found = c .before .before .lookup-in .ensures in
     let fit = shaped (c .before .before .before) in
     let below : c .before .before .lookup-in .result .slot < s .«slot_highwater» =
     rw found (looked-below s (a .image .now) (a .key .now) (rw found at (c .if1 .taken))) in
-    (fit, omega (arith, below, fit .highwater))
+    (fit .laid, omega (arith, below, fit .highwater))
 
 returns : tie.Need-returns
 returns c =
     let a = c .before .before .before .before .before .before .before .before .before .before .args in
-    c .slot-index .ensures
+    c .index-of .ensures
     ∙ index-found (a .o) (a .image .now) (a .key .now) _ (fitting (c .before .before .before .before)) _ (looked (c .before .before .before)) (c .before .if1 .taken)
 
 sub-result : tie.Need-sub-result
@@ -94,7 +94,7 @@ index-part-spec =
     judge-requires
     enum-known-judged
     lookup-in-requires
-    slot-index-requires
+    index-of-requires
     returns
     sub-result
     part-result-start

@@ -40,12 +40,12 @@ probe-for-requires c κs = search needs
 enum-known-probed : tie.Need-enum-known-probed
 enum-known-probed c = search needs
 
-revision-at-requires : tie.Need-revision-at-requires
-revision-at-requires c κs =
+revision-of-requires : tie.Need-revision-of-requires
+revision-of-requires c κs =
     let b = c .before .before .before .before .before .before .before .before in
     let a = b .args in
     let below = found-below (a .s) (a .image .now) (a .key .now) _ _ (ended (c .before .before .before) _ (c .before .probed .given .1)) in
-    (b .pre, omega (arith, below, b .pre .highwater))
+    (b .pre .laid, omega (arith, below, b .pre .highwater))
 
 enum-known-probed-2 : tie.Need-enum-known-probed-2
 enum-known-probed-2 c = search needs
@@ -59,7 +59,7 @@ refused-requires-2 c κs = search needs
 returns-2 : tie.Need-returns-2
 returns-2 c =
     let n = c .before .before .probed .given .0 in
-    let revision = toZ-ofZ {w = w64} {z = c .revision-at .result} (sfits-of (c .revision-at .ok)) ∙ c .revision-at .ensures in
+    let revision = toZ-ofZ {w = w64} {z = c .revision-of .result} (sfits-of (c .revision-of .ok)) ∙ c .revision-of .ensures in
     ap (λ (z : ℤ). record { answer = done; slot = n .0; revision = z; buckets = n .1 .0 }) revision
     ∙ looked (c .before .before .before .before) _ (c .before .before .probed .given .1)
 
@@ -77,7 +77,7 @@ lookup-in-spec =
     returns
     probe-for-requires
     enum-known-probed
-    revision-at-requires
+    revision-of-requires
     enum-known-probed-2
     enum-told
     refused-requires-2

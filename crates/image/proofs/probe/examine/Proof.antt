@@ -10,19 +10,19 @@ use Rattle.image.proofs.Steps.{from-empty, from-tombstone, from-full}
 use Rattle.image.proofs.probe.examine.Statement.{statement}
 use Rattle.image.proofs.probe.examine.Tie as tie
 
-slot-plus1-at-requires : tie.Need-slot-plus1-at-requires
-slot-plus1-at-requires c κs = search needs
+slot-plus1-of-requires : tie.Need-slot-plus1-of-requires
+slot-plus1-of-requires c κs = search needs
 
 returns : tie.Need-returns
 unfolding bucketOf examine
-returns c = λ count onward. rw (from-empty _ _ (sym (c .before .slot-plus1-at .ensures) ∙ c .if1 .taken))
+returns c = λ count onward. rw (from-empty _ _ (sym (c .before .slot-plus1-of .ensures) ∙ c .if1 .taken))
 
 returns-2 : tie.Need-returns-2
 unfolding bucketOf examine
-returns-2 c = λ count onward. rw (from-tombstone _ _ (sym (c .before .before .slot-plus1-at .ensures) ∙ c .if2 .taken))
+returns-2 c = λ count onward. rw (from-tombstone _ _ (sym (c .before .before .slot-plus1-of .ensures) ∙ c .if2 .taken))
 
-hash64-at-requires : tie.Need-hash64-at-requires
-hash64-at-requires c κs = search needs
+hash64-of-requires : tie.Need-hash64-of-requires
+hash64-of-requires c κs = search needs
 
 sub-examine-full : tie.Need-sub-examine-full
 sub-examine-full c = search needs
@@ -34,20 +34,20 @@ returns-3 : tie.Need-returns-3
 unfolding bucketOf
 returns-3 c =
     let a = c .before .before .before .before .before .before .before .args in
-    let plus1 = c .before .before .before .before .slot-plus1-at in
+    let plus1 = c .before .before .before .before .slot-plus1-of in
     let full = from-full _ _ (λ e. c .before .before .before .if1 .left (plus1 .ensures ∙ e)) (λ e. c .before .before .if2 .left (plus1 .ensures ∙ e)) in
     λ count onward. c .examine-full .ensures count onward
     ∙ ap (examine (tableOf (a .s) (a .image .now)) (a .key .now) count onward)
-    (ap₂ (λ (h n : ℕ). FULL h (n - 1)) (c .before .hash64-at .ensures) (plus1 .ensures) ∙ sym full)
+    (ap₂ (λ (h n : ℕ). FULL h (n - 1)) (c .before .hash64-of .ensures) (plus1 .ensures) ∙ sym full)
 
 pub examine-spec : {M : Type 1} → statement M
 examine-spec =
     tie.close
     (tie.spec
-    slot-plus1-at-requires
+    slot-plus1-of-requires
     returns
     returns-2
-    hash64-at-requires
+    hash64-of-requires
     sub-examine-full
     examine-full-requires
     returns-3)

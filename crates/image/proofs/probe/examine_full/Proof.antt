@@ -19,11 +19,11 @@ hashed c = c .if2 .left ∙ c .before .before .before .before .before .pre .1
 -- the comparison is of the slot's key with the key
 compared : (c : tie.After-same-bytes)
     → let a = c .before .before .before .before .before .before .before .args in
-    c .same-bytes .result ≡ same (keyOf (a .s) (a .image .now) (a .n)) (a .key .now)
+    c .same-bytes .result ≡ same (keyOf (a .s .layout) (a .image .now) (a .n)) (a .key .now)
 compared c =
     let a = c .before .before .before .before .before .before .before .args in
-    let said : c .same-bytes .result ≡ same (c .before .key-part .result .now) (a .key .now) = c .same-bytes .ensures in
-    said ∙ ap (λ (k : List ℕ). same k (a .key .now)) (c .before .key-part .ensures)
+    let said : c .same-bytes .result ≡ same (c .before .key-of .result .now) (a .key .now) = c .same-bytes .ensures in
+    said ∙ ap (λ (k : List ℕ). same k (a .key .now)) (c .before .key-of .ensures)
 
 returns : tie.Need-returns
 returns c =
@@ -37,8 +37,8 @@ returns-2 c =
     λ count onward. full-other-hash (a .s) (a .image .now) (a .key .now) (a .hash64) (a .n) count onward (search needs)
     (λ e. c .if2 .taken (e ∙ sym (b .pre .1)))
 
-key-part-requires : tie.Need-key-part-requires
-key-part-requires c κs = search needs
+key-of-requires : tie.Need-key-of-requires
+key-of-requires c κs = search needs
 
 same-bytes-requires : tie.Need-same-bytes-requires
 same-bytes-requires c κs = search needs
@@ -49,8 +49,8 @@ returns-3 c =
     λ count onward. full-other-key (a .s) (a .image .now) (a .key .now) (a .hash64) (a .n) count onward (search needs)
     (hashed (c .before .before .before)) (sym (compared (c .before)) ∙ not-true _ (c .if3 .taken))
 
-meta-at-requires : tie.Need-meta-at-requires
-meta-at-requires c κs = search needs
+meta-of-requires : tie.Need-meta-of-requires
+meta-of-requires c κs = search needs
 
 returns-4 : tie.Need-returns-4
 returns-4 c =
@@ -58,7 +58,7 @@ returns-4 c =
     λ count onward. full-live (a .s) (a .image .now) (a .key .now) (a .hash64) (a .n) count onward (search needs)
     (hashed (c .before .before .before .before .before))
     (sym (compared (c .before .before .before)) ∙ not-false _ (c .before .before .if3 .left))
-    (sym (c .before .meta-at .ensures) ∙ c .if4 .taken)
+    (sym (c .before .meta-of .ensures) ∙ c .if4 .taken)
 
 returns-5 : tie.Need-returns-5
 returns-5 c =
@@ -66,7 +66,7 @@ returns-5 c =
     λ count onward. full-dead (a .s) (a .image .now) (a .key .now) (a .hash64) (a .n) count onward (search needs)
     (hashed (c .before .before .before .before .before))
     (sym (compared (c .before .before .before)) ∙ not-false _ (c .before .before .if3 .left))
-    (λ e. c .if4 .left (c .before .meta-at .ensures ∙ e))
+    (λ e. c .if4 .left (c .before .meta-of .ensures ∙ e))
 
 pub examine-full-spec : {M : Type 1} → statement M
 examine-full-spec =
@@ -74,9 +74,9 @@ examine-full-spec =
     (tie.spec
     returns
     returns-2
-    key-part-requires
+    key-of-requires
     same-bytes-requires
     returns-3
-    meta-at-requires
+    meta-of-requires
     returns-4
     returns-5)

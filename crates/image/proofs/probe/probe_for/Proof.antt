@@ -16,11 +16,11 @@ use Rattle.image.proofs.probe.probe_for.Tie as tie
 
 abbrev Inv-loop : tie.InvT-loop
 Inv-loop image s key hash count b₀ examined₀ b examined =
-    (b < s .«bucket_count») × (examined ≤ s .«bucket_count»)
-    × (probeOf s image key ≡ probeFrom (tableOf s image) key (s .«bucket_count» - examined) b examined)
+    (b < s .layout .«bucket_count») × (examined ≤ s .layout .«bucket_count»)
+    × (probeOf s image key ≡ probeFrom (tableOf s image) key (s .layout .«bucket_count» - examined) b examined)
 
 abbrev μ-loop : tie.MeasureT-loop
-μ-loop image s key hash count b₀ examined₀ b examined = s .«bucket_count» - examined
+μ-loop image s key hash count b₀ examined₀ b examined = s .layout .«bucket_count» - examined
 
 -- what is left of the probe after a bucket
 turned : (c : tie.After-examine Inv-loop μ-loop) (r : Step) → c .examine .result ≡ r
@@ -28,7 +28,7 @@ turned : (c : tie.After-examine Inv-loop μ-loop) (r : Step) → c .examine .res
     let l = c .before .before .loop in
     let t = tableOf (a .s) (a .image .now) in
     probeOf (a .s) (a .image .now) (a .key .now)
-    ≡ ends r (l .examined + 1) (probeFrom t (a .key .now) (a .s .«bucket_count» - (l .examined + 1)) (next t (l .b)) (l .examined + 1))
+    ≡ ends r (l .examined + 1) (probeFrom t (a .key .now) (a .s .layout .«bucket_count» - (l .examined + 1)) (next t (l .b)) (l .examined + 1))
 unfolding tableOf
 turned c r e =
     let a = c .before .before .before .before .before .before .args in
@@ -46,7 +46,7 @@ loop-holds : tie.Need-loop-holds Inv-loop μ-loop
 unfolding probeOf probe tableOf
 loop-holds c =
     let a = c .before .before .before .args in
-    let count = a .s .«bucket_count» in
+    let count = a .s .layout .«bucket_count» in
     let all : count ≡ count - 0 = omega arith in
     let start = ap₂ (λ (left h : ℕ). probeFrom (tableOf (a .s) (a .image .now)) (a .key .now) left (h % count) 0) all (sym (c .fnv1a64-of .ensures)) in
     (mod-lt _ (search needs), search needs, start)

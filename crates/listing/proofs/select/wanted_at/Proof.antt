@@ -12,32 +12,32 @@ use borrow.Author.Needs.{needs}
 use Rattle.listing.proofs.select.wanted_at.Statement.{statement}
 use Rattle.listing.proofs.select.wanted_at.Tie as tie
 
-meta-at-requires : tie.Need-meta-at-requires
-meta-at-requires c κs = search needs
+meta-of-requires : tie.Need-meta-of-requires
+meta-of-requires c κs = search needs
 
 returns : tie.Need-returns
 unfolding wantedAt
 returns c =
     let a = c .before .before .before .before .args in
-    rw (ne-eqb (metaOf (a .s) (a .image .now) (a .n)) 1 (λ e. c .if1 .taken (c .before .meta-at .ensures ∙ e))) refl
+    rw (ne-eqb (metaOf (a .s .layout) (a .image .now) (a .n)) 1 (λ e. c .if1 .taken (c .before .meta-of .ensures ∙ e))) refl
 
-key-part-requires : tie.Need-key-part-requires
-key-part-requires c κs = search needs
+key-of-requires : tie.Need-key-of-requires
+key-of-requires c κs = search needs
 
 passes-requires : tie.Need-passes-requires
 passes-requires c κs =
     let b = c .before .before .before .before .before in
     let a = b .args in
-    let n : a .n < a .s .«slot_capacity» = omega (arith, b .pre .0 .highwater, b .pre .1 .1) in
-    rw (ap length (c .key-part .ensures) ∙ key-length (a .s) (a .image .now) (b .pre .0) (a .n) n) (b .pre .1 .0)
+    let n : a .n < a .s .layout .«slot_capacity» = omega (arith, b .pre .0 .highwater, b .pre .1 .1) in
+    rw (ap length (c .key-of .ensures) ∙ key-length (a .s .layout) (a .image .now) (b .pre .0 .laid) (a .n) n) (b .pre .1 .0)
 
 returns-2 : tie.Need-returns-2
 unfolding wantedAt
 returns-2 c =
     let a = c .before .before .before .before .before .before .args in
-    rw (eq-eqb (metaOf (a .s) (a .image .now) (a .n)) 1 (sym (c .before .before .before .meta-at .ensures) ∙ c .before .before .if1 .left))
-    (c .passes .ensures ∙ ap (test (a .wanted) (a .pattern .now)) (c .before .key-part .ensures))
+    rw (eq-eqb (metaOf (a .s .layout) (a .image .now) (a .n)) 1 (sym (c .before .before .before .meta-of .ensures) ∙ c .before .before .if1 .left))
+    (c .passes .ensures ∙ ap (test (a .wanted) (a .pattern .now)) (c .before .key-of .ensures))
 
 pub wanted-at-spec : {M : Type 1} → statement M
 wanted-at-spec =
-    tie.close (tie.spec meta-at-requires returns key-part-requires passes-requires returns-2)
+    tie.close (tie.spec meta-of-requires returns key-of-requires passes-requires returns-2)

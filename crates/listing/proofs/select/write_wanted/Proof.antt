@@ -51,7 +51,7 @@ add-n c = omega (arith, found c)
 cast-numbers : tie.Need-cast-numbers Inv-loop μ-loop
 cast-numbers c =
     let b = c .before .before .before .before .before .before .before in
-    omega (arith, found c, b .pre .0 .highwater, b .pre .0 .room, b .pre .0 .small)
+    omega (arith, found c, b .pre .0 .highwater, b .pre .0 .laid .room, b .pre .0 .laid .small)
 
 mul-numbers : tie.Need-mul-numbers Inv-loop μ-loop
 mul-numbers c = search needs

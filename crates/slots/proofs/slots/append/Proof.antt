@@ -10,7 +10,7 @@ use Rattle.slots.proofs.slots.append.Tie as tie
 slot-at-requires : tie.Need-slot-at-requires
 slot-at-requires c κs =
     let b = c .before .before in
-    omega (arith, slot-inside (b .args .s) (b .args .image .now) (b .pre .0) (b .args .s .«slot_highwater») (b .pre .1 .0))
+    omega (arith, slot-inside (b .args .s .layout) (b .args .image .now) (b .pre .0 .laid) (b .args .s .«slot_highwater») (b .pre .1 .0))
 
 copy-to-requires : tie.Need-copy-to-requires
 copy-to-requires c κs =
@@ -19,7 +19,7 @@ copy-to-requires c κs =
       arith,
       c .before .slot-at .ensures,
       b .pre .1 .1,
-      slot-inside (b .args .s) (b .args .image .now) (b .pre .0) (b .args .s .«slot_highwater») (b .pre .1 .0),
+      slot-inside (b .args .s .layout) (b .args .image .now) (b .pre .0 .laid) (b .args .s .«slot_highwater») (b .pre .1 .0),
     )
 
 index-slot-requires : tie.Need-index-slot-requires

@@ -6,8 +6,8 @@ use borrow.Author.Tests.{eq-eqb, ne-eqb}
 use Rattle.slots.proofs.slots.index_live.Statement.{statement}
 use Rattle.slots.proofs.slots.index_live.Tie as tie
 
-meta-at-requires : tie.Need-meta-at-requires
-meta-at-requires c κs = search needs
+meta-of-requires : tie.Need-meta-of-requires
+meta-of-requires c κs = search needs
 
 index-slot-requires : tie.Need-index-slot-requires
 index-slot-requires c κs = search needs
@@ -17,7 +17,7 @@ same-length c = search needs
 
 returns : tie.Need-returns
 returns c =
-    let m = c .before .before .before .before .before .meta-at in
+    let m = c .before .before .before .before .before .meta-of in
     rw (← m .ensures, eq-eqb (m .result) 1 (c .before .before .before .before .if1 .taken)) (c .before .before .index-slot .ensures)
 
 same-length-2 : tie.Need-same-length-2
@@ -25,10 +25,10 @@ same-length-2 c = search needs
 
 returns-2 : tie.Need-returns-2
 returns-2 c =
-    let m = c .before .meta-at in
+    let m = c .before .meta-of in
     rw (← m .ensures, ne-eqb (m .result) 1 (c .if1 .left)) refl
 
 pub index-live-spec : {M : Type 1} → statement M
 index-live-spec =
     tie.close
-    (tie.spec meta-at-requires index-slot-requires same-length returns same-length-2 returns-2)
+    (tie.spec meta-of-requires index-slot-requires same-length returns same-length-2 returns-2)

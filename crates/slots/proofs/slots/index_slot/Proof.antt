@@ -21,10 +21,10 @@ start c = c .before .before .before .before .before .before
 
 -- the key that the slot has
 abbrev key : tie.After-place-of → List ℕ
-key c = keyOf (start c .args .s) (start c .args .image .now) (start c .args .n)
+key c = keyOf (start c .args .s .layout) (start c .args .image .now) (start c .args .n)
 
 hashed : (c : tie.After-place-of) → c .before .before .fnv1a64-of .result ≡ fnv1a64 (key c)
-hashed c = c .before .before .fnv1a64-of .ensures ∙ ap fnv1a64 (c .before .before .before .key-part .ensures)
+hashed c = c .before .before .fnv1a64-of .ensures ∙ ap fnv1a64 (c .before .before .before .key-of .ensures)
 
 -- the bucket is the key's place
 found : (c : tie.After-place-of) → c .place-of .result ≡ place (tableOf (start c .args .s) (start c .args .image .now)) (key c)
@@ -32,15 +32,15 @@ found c =
     let a = start c .args in
     place-by-hash (a .s) (a .image .now) (key c) (c .before .before .fnv1a64-of .result) (c .place-of .result) (hashed c) (c .place-of .ensures)
 
-inside : (c : tie.After-place-of) → bucketAt (start c .args .s) (c .place-of .result) + 16 ≤ length (start c .args .image .now)
+inside : (c : tie.After-place-of) → bucketAt (start c .args .s .layout) (c .place-of .result) + 16 ≤ length (start c .args .image .now)
 inside c =
     let a = start c .args in
     let pre = start c .pre in
-    subst (λ (b : ℕ). bucketAt (a .s) b + 16 ≤ length (a .image .now)) (sym (found c))
-    (bucket-inside (a .s) (a .image .now) (pre .0) _ (bucket-below (a .s) (a .image .now) (pre .0) (a .n) (pre .1)))
+    subst (λ (b : ℕ). bucketAt (a .s .layout) b + 16 ≤ length (a .image .now)) (sym (found c))
+    (bucket-inside (a .s .layout) (a .image .now) (pre .0 .laid) _ (bucket-below (a .s) (a .image .now) (pre .0) (a .n) (pre .1)))
 
-key-part-requires : tie.Need-key-part-requires
-key-part-requires c κs = search needs
+key-of-requires : tie.Need-key-of-requires
+key-of-requires c κs = search needs
 
 fnv1a64-of-requires : tie.Need-fnv1a64-of-requires
 fnv1a64-of-requires c κs = search needs
@@ -75,14 +75,14 @@ returns c =
     let b = bucket .before in
     let a = start b .args in
     let pre = start b .pre in
-    let there = bucket .bucket-at .ensures ∙ ap (bucketAt (a .s)) (found b) in
+    let there = bucket .bucket-at .ensures ∙ ap (bucketAt (a .s .layout)) (found b) in
     indexes (a .s) (a .image .now) (pre .0) (a .n) (pre .1) there (hashed b) (first .put-u64 .ensures) (second .put-u642 .ensures)
 
 pub index-slot-spec : {M : Type 1} → statement M
 index-slot-spec =
     tie.close
     (tie.spec
-    key-part-requires
+    key-of-requires
     fnv1a64-of-requires
     place-of-requires
     bucket-at-requires

@@ -13,26 +13,26 @@ use Rattle.slots.proofs.slots.place_of.Tie as tie
 
 abbrev Inv-loop : tie.InvT-loop
 Inv-loop image s hash count b₀ left₀ b left =
-    (b < s .«bucket_count»)
-    × (placeFrom (tableOf s image) (s .«bucket_count») (hash % s .«bucket_count») ≡ placeFrom (tableOf s image) left b)
+    (b < s .layout .«bucket_count»)
+    × (placeFrom (tableOf s image) (s .layout .«bucket_count») (hash % s .layout .«bucket_count») ≡ placeFrom (tableOf s image) left b)
 
 abbrev μ-loop : tie.MeasureT-loop
 μ-loop image s hash count b₀ left₀ b left = left
 
 rem-b : tie.Need-rem-b Inv-loop μ-loop
-rem-b c = omega (arith, c .before .pre .room)
+rem-b c = omega (arith, c .before .pre .laid .room)
 
 loop-holds : tie.Need-loop-holds Inv-loop μ-loop
-loop-holds c = (mod-lt _ (omega (arith, c .before .pre .room)), refl)
+loop-holds c = (mod-lt _ (omega (arith, c .before .pre .laid .room)), refl)
 
-slot-plus1-at-requires : tie.Need-slot-plus1-at-requires Inv-loop μ-loop
-slot-plus1-at-requires c κs = search needs
+slot-plus1-of-requires : tie.Need-slot-plus1-of-requires Inv-loop μ-loop
+slot-plus1-of-requires c κs = search needs
 
 returns : tie.Need-returns Inv-loop μ-loop
 returns c =
     let a = c .before .before .before .before .before .args in
     let l = c .before .before .before .loop in
-    sym (l .inv .1 ∙ place-empty (a .s) (a .image .now) (l .left) (l .b) (omega arith) (sym (c .before .slot-plus1-at .ensures) ∙ c .if1 .taken))
+    sym (l .inv .1 ∙ place-empty (a .s) (a .image .now) (l .left) (l .b) (omega arith) (sym (c .before .slot-plus1-of .ensures) ∙ c .if1 .taken))
 
 returns-2 : tie.Need-returns-2 Inv-loop μ-loop
 returns-2 c =
@@ -40,7 +40,7 @@ returns-2 c =
     let l = c .before .before .before .before .loop in
     sym
     (l .inv .1
-    ∙ place-tombstone (a .s) (a .image .now) (l .left) (l .b) (omega arith) (sym (c .before .before .slot-plus1-at .ensures) ∙ c .if2 .taken))
+    ∙ place-tombstone (a .s) (a .image .now) (l .left) (l .b) (omega arith) (sym (c .before .before .slot-plus1-of .ensures) ∙ c .if2 .taken))
 
 next-bucket-requires : tie.Need-next-bucket-requires Inv-loop μ-loop
 next-bucket-requires c κs = search needs
@@ -55,7 +55,7 @@ loop-again : tie.Need-loop-again Inv-loop μ-loop
 loop-again c =
     let a = c .before .before .before .before .before .before .before .args in
     let l = c .before .before .before .before .before .loop in
-    let r = c .before .before .before .slot-plus1-at .ensures in (
+    let r = c .before .before .before .slot-plus1-of .ensures in (
       rw (c .next-bucket .ensures) (mod-lt _ (omega arith)),
       l .inv .1
           ∙ place-full (a .s) (a .image .now) (l .left) (l .b) (omega arith) (λ e. c .before .before .if1 .left (r ∙ e)) (λ e. c .before .if2 .left (r ∙ e))
@@ -76,7 +76,7 @@ place-of-spec =
     μ-loop
     rem-b
     loop-holds
-    slot-plus1-at-requires
+    slot-plus1-of-requires
     returns
     returns-2
     next-bucket-requires

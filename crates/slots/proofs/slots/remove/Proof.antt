@@ -10,27 +10,27 @@ use Rattle.slots.proofs.slots.remove.Tie as tie
 slot-at-requires : tie.Need-slot-at-requires
 slot-at-requires c κs =
     let b = c .before in
-    omega (arith, meta-inside (b .args .s) (b .args .image .now) (b .pre .0) (b .args .n) (b .pre .1 .0))
+    omega (arith, meta-inside (b .args .l) (b .args .image .now) (b .pre .0) (b .args .n) (b .pre .1 .0))
 
 put-u64-requires : tie.Need-put-u64-requires
 put-u64-requires c κs =
     let b = c .before .before .before in
-    omega (arith, c .before .slot-at .ensures, meta-inside (b .args .s) (b .args .image .now) (b .pre .0) (b .args .n) (b .pre .1 .0))
+    omega (arith, c .before .slot-at .ensures, meta-inside (b .args .l) (b .args .image .now) (b .pre .0) (b .args .n) (b .pre .1 .0))
 
 bucket-at-requires : tie.Need-bucket-at-requires
 bucket-at-requires c κs =
     let b = c .before .before .before .before .before .before in
-    omega (arith, bucket-inside (b .args .s) (b .args .image .now) (b .pre .0) (b .args .b) (b .pre .1 .1))
+    omega (arith, bucket-inside (b .args .l) (b .args .image .now) (b .pre .0) (b .args .b) (b .pre .1 .1))
 
 add-bucket : tie.Need-add-bucket
 add-bucket c =
     let b = c .before .before .before .before .before .before .before in
-    omega (arith, c .bucket-at .ensures, bucket-inside (b .args .s) (b .args .image .now) (b .pre .0) (b .args .b) (b .pre .1 .1))
+    omega (arith, c .bucket-at .ensures, bucket-inside (b .args .l) (b .args .image .now) (b .pre .0) (b .args .b) (b .pre .1 .1))
 
 put-u64-requires-2 : tie.Need-put-u64-requires-2
 put-u64-requires-2 c κs =
     let b = c .before .before .before .before .before .before .before .before in
-    omega (arith, c .before .bucket-at .ensures, bucket-inside (b .args .s) (b .args .image .now) (b .pre .0) (b .args .b) (b .pre .1 .1))
+    omega (arith, c .before .bucket-at .ensures, bucket-inside (b .args .l) (b .args .image .now) (b .pre .0) (b .args .b) (b .pre .1 .1))
 
 same-length : tie.Need-same-length
 same-length c = search needs
@@ -42,7 +42,7 @@ returns c =
     let first = bucket .before .before .before in
     let slot = first .before .before in
     let a = slot .before .before .args in
-    removes (a .s) (a .image .now) (a .n) (a .b) (slot .slot-at .ensures) (first .put-u64 .ensures) (bucket .bucket-at .ensures) (second .put-u642 .ensures)
+    removes (a .l) (a .image .now) (a .n) (a .b) (slot .slot-at .ensures) (first .put-u64 .ensures) (bucket .bucket-at .ensures) (second .put-u642 .ensures)
 
 pub remove-spec : {M : Type 1} → statement M
 remove-spec =

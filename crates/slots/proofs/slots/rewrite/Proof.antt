@@ -9,22 +9,23 @@ use Rattle.numbers.specs.Bytes.{part, put}
 use Rattle.header.specs.Sizes.{align8, slotSize}
 use Rattle.header.proofs.SizeLaws.{align8-low}
 use Rattle.image.specs.Table.{slotAt, revisionAt, indexAt}
-use Rattle.image.proofs.Places.{range-part, index-inside}
+use Rattle.numbers.proofs.Put.{range-part}
+use Rattle.image.proofs.Places.{index-inside}
 use Rattle.slots.specs.Slots.{rewritten}
 use Rattle.slots.proofs.slots.rewrite.Statement.{statement}
 use Rattle.slots.proofs.slots.rewrite.Tie as tie
 
 -- where the index ends, in the image and in the record
-in-image : (c : tie.Start) → slotAt (c .args .s) (c .args .n) + 16 + align8 (c .args .s .«key_size») + c .args .s .«index_size» ≤ length (c .args .image .now)
+in-image : (c : tie.Start) → slotAt (c .args .l) (c .args .n) + 16 + align8 (c .args .l .«key_size») + c .args .l .«index_size» ≤ length (c .args .image .now)
 unfolding indexAt
-in-image c = index-inside (c .args .s) (c .args .image .now) (c .pre .0) (c .args .n) (c .pre .1 .0)
+in-image c = index-inside (c .args .l) (c .args .image .now) (c .pre .0) (c .args .n) (c .pre .1 .0)
 
-in-record : (c : tie.Start) → 16 + align8 (c .args .s .«key_size») + c .args .s .«index_size» ≤ length (c .args .«record» .now)
+in-record : (c : tie.Start) → 16 + align8 (c .args .l .«key_size») + c .args .l .«index_size» ≤ length (c .args .«record» .now)
 unfolding slotSize
-in-record c = omega (arith, c .pre .0 .slot, c .pre .1 .1, align8-low (c .args .s .«index_size»))
+in-record c = omega (arith, c .pre .0 .slot, c .pre .1 .1, align8-low (c .args .l .«index_size»))
 
 align8-requires : tie.Need-align8-requires
-align8-requires c κs = omega (arith, in-image (c .before .before), align8-low (c .before .before .args .s .«key_size»))
+align8-requires c κs = omega (arith, in-image (c .before .before), align8-low (c .before .before .args .l .«key_size»))
 
 add-from : tie.Need-add-from
 add-from c = omega (arith, c .align8 .ensures, in-image (c .before .before .before))
@@ -64,7 +65,7 @@ returns c =
     let b = c .before .before .before .before .before .before .before .before .before .before in
     let aligned = c .before .before .before .before .before .before .before .align8 in
     let slot = c .before .before .before .before .before .slot-at in
-    let sizes = b .args .s in
+    let sizes = b .args .l in
     let from : ℕ = 8 + aligned .result in
     let end : ℕ = from + 8 + sizes .«index_size» in
     let copied : c .before .before .copy-to .last .0 ≡ put (b .args .image .now) (slot .result + from) (take (end - from) (drop from (b .args .«record» .now))) =
