@@ -31,7 +31,7 @@ EXPERIMENTS = {
     ),
     # a lookup that takes a serial which was cut
     "cut_serial": Experiment(
-        [("image/src/lookup.rt", "if key.len() != s.key_size {", "if key.len() > s.key_size {")],
+        [("image/src/lookup.rt", "if key.len() != s.layout.key_size {", "if key.len() > s.layout.key_size {")],
         "image", "looked", "length",
     ),
     # what begin owes, said of the routine of checkpoint

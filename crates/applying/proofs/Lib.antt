@@ -1,4 +1,4 @@
-pub mod Kept
+pub mod StepsKeepHeader
 pub mod Acting
 pub mod Tombstones
 pub mod Applied

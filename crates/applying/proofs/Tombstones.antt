@@ -11,22 +11,22 @@ use Rattle.numbers.specs.Bytes.{part, word}
 use Rattle.probing.specs.Table.{isTombstone}
 use Rattle.probing.proofs.Keys.{either}
 use Rattle.header.specs.declared.shape.Shape.{Shape}
-use Rattle.image.specs.Table.{bucketAt, bucketFrom, bucketOf}
+use Rattle.image.specs.Table.{all-ones, bucketAt, bucketFrom, bucketOf}
 
-by-word : (h plus1 : ℕ) → isTombstone (bucketFrom h plus1) ≡ eqb plus1 18446744073709551615
+by-word : (h plus1 : ℕ) → isTombstone (bucketFrom h plus1) ≡ eqb plus1 all-ones
 unfolding bucketFrom
-by-word h plus1 = go (either (eqb plus1 0)) (either (eqb plus1 18446744073709551615))
+by-word h plus1 = go (either (eqb plus1 0)) (either (eqb plus1 all-ones))
   where
     go :
         (eqb plus1 0 ≡ true) ⊎ (eqb plus1 0 ≡ false)
-        → (eqb plus1 18446744073709551615 ≡ true) ⊎ (eqb plus1 18446744073709551615 ≡ false)
-        → isTombstone (bucketFrom h plus1) ≡ eqb plus1 18446744073709551615
+        → (eqb plus1 all-ones ≡ true) ⊎ (eqb plus1 all-ones ≡ false)
+        → isTombstone (bucketFrom h plus1) ≡ eqb plus1 all-ones
     go (inl e) q = rw (eqb-true plus1 0 e)
     go (inr e) (inl q) = rw (e, q)
     go (inr e) (inr q) = rw (e, q)
 
 pub is-tombstone :
     (s : Shape) (image : List ℕ) (b : ℕ)
-    → eqb (word (part image (bucketAt (s .layout) b + 8) 8)) 18446744073709551615 ≡ isTombstone (bucketOf (s .layout) image b)
+    → eqb (word (part image (bucketAt (s .layout) b + 8) 8)) all-ones ≡ isTombstone (bucketOf (s .layout) image b)
 unfolding bucketOf
 is-tombstone s image b = sym (by-word _ _)

@@ -1,4 +1,4 @@
--- "Only the last record for a key counts": for each record'layout key there is one record that decides.
+-- "Only the last record for a key counts": for each record's key there is one record that decides.
 -- Assumes nothing.
 use Prim.Native.Nat.{ℕ, zero, suc, _+_, _≤_, _<_}
 use mathlib.Core.Bool.{Bool, true, not, _&&_}

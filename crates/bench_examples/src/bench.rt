@@ -4,22 +4,17 @@ use commit::commit::commit_batch;
 use header::judge::judge;
 use header::open::open_check;
 use header::options::Options;
+use header::options::bench;
 use header::shape::Judged;
+use header::state::HOLDS_THE_LOCK;
 use image::check::full_check;
 use image::lookup::look_up;
 use writing::create::create;
 use writing::state::begin;
 
-// Key 12, index 20, capacity 512: a total of 45,312 bytes.
+// The bench's own options: a total of 45,312 bytes.
 fn large() -> Options {
-    Options {
-        key_size: 12,
-        index_size: 20,
-        slot_capacity: 512,
-        user_version: 1,
-        ordered: 0,
-        role: 2,
-    }
+    bench(HOLDS_THE_LOCK)
 }
 
 // Key 1, index 0, capacity 3: B is 8, a slot 24 bytes, the total 456.
@@ -30,7 +25,7 @@ fn small() -> Options {
         slot_capacity: 3,
         user_version: 1,
         ordered: 0,
-        role: 2,
+        role: HOLDS_THE_LOCK,
     }
 }
 

@@ -7,6 +7,7 @@ ghost use Rattle.image.specs.Lookup.{isLive};
 ghost use Rattle.batch.specs.Batch.{recordCount, most-records};
 ghost use Rattle.batch.specs.NewKeys.{isNew};
 ghost use Rattle.batch.specs.Marks.{Flagged};
+use batch::batch::MOST_RECORDS;
 use batch::batch::decides;
 use batch::batch::record_count;
 use batch::batch::record_key;
@@ -36,13 +37,13 @@ fn is_new(image: &[u8], s: Shape, batch: &[u8], i: usize) -> u8
 }
 
 // For each record its flag: 1 if its key is new, else 0.
-pub fn flag_new_keys(image: &[u8], s: Shape, batch: &[u8]) -> [u8; 64]
+pub fn flag_new_keys(image: &[u8], s: Shape, batch: &[u8]) -> [u8; MOST_RECORDS]
     requires { ⌜ Shaped s (now image) ⌝ }
     requires { ⌜ recordCount (s .layout) (now batch) ≤ most-records ⌝ }
     ensures { λ r. ⌜ Flagged (s .layout) (isLive s (now (image .entry))) (now (batch .entry)) r ⌝ }
 {
     let count = record_count(batch, s.layout);
-    let mut flags: [u8; 64] = [0; 64];
+    let mut flags: [u8; MOST_RECORDS] = [0; MOST_RECORDS];
     let mut i = 0;
     while i < count {
         flags[i] = is_new(image, s, batch, i);

@@ -10,6 +10,7 @@ ghost use Rattle.commit.specs.Plan.{Planned, noPlan};
 use crate::further::room_test;
 use crate::further::sound_test;
 use crate::new_keys::flag_new_keys;
+use batch::batch::MOST_RECORDS;
 use batch::batch::record_count;
 use batch::new_keys::count_flags;
 use batch::new_keys::mark_new_keys;
@@ -20,7 +21,7 @@ use header::shape::Shape;
 pub struct Plan {
     pub answer: u32,
     pub count: usize,
-    pub marks: [u8; 64],
+    pub marks: [u8; MOST_RECORDS],
 }
 
 // A refusal: there is nothing to do.
@@ -30,7 +31,7 @@ fn no_plan(answer: u32) -> Plan
     Plan {
         answer,
         count: 0,
-        marks: [0; 64],
+        marks: [0; MOST_RECORDS],
     }
 }
 

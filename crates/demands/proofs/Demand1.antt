@@ -14,7 +14,7 @@ use Rattle.header.specs.Fields as F
 use Rattle.header.specs.FirstOf.{firstOf}
 use Rattle.header.specs.State.{CLEAN, INVALIDATED, DIRTY}
 use Rattle.header.specs.HeaderTest.{test1, headerTests, headerTest, afterTest, layoutOf, shapeOf}
-use Rattle.header.proofs.Said.{agreed}
+use Rattle.header.proofs.PassedTests.{agreed}
 use Rattle.header.proofs.Stages.{passes}
 use Rattle.image.specs.Lookup.{nothing, lookupOf}
 use Rattle.image.proofs.Looked.{looked-other, index-none}

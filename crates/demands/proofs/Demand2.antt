@@ -44,7 +44,7 @@ use Rattle.demands.specs.Demand2.{ReadsBack, NoneHolds, Demand2}
 use Rattle.demands.specs.Listings.{RightPattern, Roomy, Lists, Piece}
 use Rattle.demands.specs.Shows.{Shows}
 use Rattle.demands.proofs.Belongs.{belongs}
-use Rattle.demands.proofs.Held.{Held, create-none, writer-header, checkpoint-done, begin-done, held}
+use Rattle.demands.proofs.HistoryInvariant.{Held, create-none, writer-header, checkpoint-done, begin-done, held}
 use Rattle.demands.proofs.Patterns.{right-taken}
 use Rattle.demands.proofs.Pieces.{pieces}
 use Rattle.demands.proofs.Scanned.{few, lists-map}

@@ -10,7 +10,7 @@ pub mod Exports
 pub mod OneOutcome
 pub mod SameBytes
 pub mod SameReading
-pub mod Held
+pub mod HistoryInvariant
 pub mod Scanned
 pub mod Pieces
 pub mod Patterns
@@ -19,5 +19,5 @@ pub mod Belongs
 pub mod Ascending
 pub mod Reading
 pub mod Numbered
-pub mod Steps
+pub mod StoriesComputed
 pub mod Story

@@ -27,8 +27,8 @@ use Rattle.writing.proofs.Seal.{seal-length, seal-behind}
 use Rattle.writing.proofs.Making.{total-low}
 use Rattle.writing.proofs.Roles.{writing-named, passed-long}
 use Rattle.commit.specs.Commit.{commitOf}
-use Rattle.maps.proofs.Accepted.{accepted-facts}
-use Rattle.maps.proofs.Committed.{committed-image}
+use Rattle.soundness.proofs.Accepted.{accepted-facts}
+use Rattle.soundness.proofs.Committed.{committed-image}
 use Rattle.demands.specs.PastTotal.{PastTotal, past}
 use Rattle.demands.proofs.SameBytes.{total-shape, same-header}
 use Rattle.demands.proofs.SameReading.{same-open, same-lookup, same-index, same-check, same-scan, same-match}

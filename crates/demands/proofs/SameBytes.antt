@@ -22,7 +22,7 @@ use Rattle.header.specs.HeaderTest.{test1, test2, test3, test4, test5, test6, t
 use Rattle.header.specs.Shaped.{Shaped}
 use Rattle.header.specs.Sizes.{bucketsOffset, totalSize}
 use Rattle.header.proofs.Fit.{judged-fit, fit-shaped}
-use Rattle.header.proofs.Said.{agreed, ruled}
+use Rattle.header.proofs.PassedTests.{agreed, ruled}
 use Rattle.header.proofs.Stages.{written, fitting, staged, passes}
 use Rattle.image.specs.Table.{bucketAt, bucketOf}
 use Rattle.image.proofs.Places.{slot-ends}

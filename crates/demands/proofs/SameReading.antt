@@ -26,7 +26,7 @@ use Rattle.listing.specs.Scan.{passing, matches, refused, list, scanOf}
 use Rattle.listing.specs.Match.{agrees, matchIn, matchOf}
 use Rattle.slots.proofs.Table.Around.{SameSlot}
 use Rattle.maps.specs.Map.{entryAt, mapOf}
-use Rattle.maps.proofs.MapSteps.{same-entry}
+use Rattle.maps.proofs.MapWrites.{same-entry}
 use Rattle.demands.specs.PastTotal.{SameToTotal}
 use Rattle.demands.proofs.SameBytes.{shaped, same-fields, same-shape, same-header, same-slots, same-buckets}
 

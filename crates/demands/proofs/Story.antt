@@ -30,7 +30,7 @@ use Rattle.demands.specs.Story.{Story}
 use Rattle.demands.specs.OrderedStory as O
 use Rattle.demands.specs.OrderedStory.{OrderedStory}
 use Rattle.demands.proofs.Demand2.{demand2}
-use Rattle.demands.proofs.Steps.{steps, ordered-steps}
+use Rattle.demands.proofs.StoriesComputed.{steps, ordered-steps}
 
 words-bytes : (width : ℕ) (xs : List ℕ) → Bytes (words width xs)
 words-bytes width [] = λ i. lit< tt

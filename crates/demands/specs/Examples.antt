@@ -10,13 +10,13 @@ use Rattle.numbers.specs.declared.age.Order.the-variants.{Newer}
 use Rattle.numbers.specs.Age.{ageOf}
 use Rattle.probing.specs.Overflow.{sumOfHomes}
 use Rattle.header.specs.declared.options.Options.{Options}
+use Rattle.header.specs.Bench.{benchOptions}
 use Rattle.header.specs.Sizes.{slotSize, bucketCount, bucketsOffset, totalSize}
 use Rattle.listing.specs.Match.{agrees}
 
 -- "Key 12, index 20 ...; capacity 512"
 abbrev pub bench : Options
-bench =
-    record { «key_size» = 12; «index_size» = 20; «slot_capacity» = 512; «user_version» = 1; ordered = 0; role = 0 }
+bench = benchOptions 0
 
 abbrev pub newer : ℕ → Age
 newer n = record { order = Newer; distance = n }

@@ -26,6 +26,7 @@ use Rattle.header.proofs.fields.read.Reads as read-reads
 use Rattle.header.proofs.fields.bytes_in.Reads as bytes-in-reads
 use Rattle.header.proofs.judge.judge.Reads as judge-reads
 use Rattle.header.proofs.judge.options_test.Reads as options-test-reads
+use Rattle.header.proofs.options.bench.Reads as bench-reads
 use Rattle.header.proofs.sizes.sizes_allowed.Reads as sizes-allowed-reads
 use Rattle.header.proofs.sizes.align8.Reads as align8-reads
 use Rattle.header.proofs.sizes.slot_size.Reads as slot-size-reads
@@ -34,9 +35,9 @@ use Rattle.header.proofs.sizes.bucket_count.Reads as bucket-count-reads
 use Rattle.header.proofs.sizes.buckets_offset.Reads as buckets-offset-reads
 use Rattle.header.proofs.sizes.total_size.Reads as total-size-reads
 use Rattle.image.proofs.check.passes_check.Reads as passes-check-reads
+use Rattle.image.proofs.check.refused.Reads as check-refused-reads
 use Rattle.image.proofs.table.revision_of.Reads as revision-of-reads
 use Rattle.image.proofs.table.index_of.Reads as index-of-reads
-use Rattle.image.proofs.lookup.lookup_in.Reads as lookup-in-reads
 use Rattle.image.proofs.table.slot_at.Reads as slot-at-reads
 use Rattle.image.proofs.table.bucket_at.Reads as bucket-at-reads
 use Rattle.image.proofs.table.meta_of.Reads as meta-of-reads
@@ -52,7 +53,6 @@ use Rattle.writing.proofs.judge.judge_writer.Reads as judge-writer-reads
 use Rattle.writing.proofs.judge.judge_change.Reads as judge-change-reads
 use Rattle.slots.proofs.slots.rewrite.Reads as rewrite-reads
 use Rattle.slots.proofs.slots.remove.Reads as remove-reads
-use Rattle.slots.proofs.slots.index_slot.Reads as index-slot-reads
 use Rattle.slots.proofs.slots.append.Reads as append-reads
 use Rattle.slots.proofs.slots.rebuild.Reads as rebuild-reads
 use Rattle.slots.proofs.slots.publish.Reads as publish-reads
@@ -109,6 +109,8 @@ pub record Outcomes : Type 2 where
   -- header, judge
   pub judge : One judge-reads.Post (λ κ x e. x)
   pub options-test : One options-test-reads.Post (λ κ x e. x)
+  -- header, options
+  pub bench : One bench-reads.Post (λ κ x e. x)
   -- header, sizes
   pub sizes-allowed : One sizes-allowed-reads.Post (λ κ x e. x)
   pub align8 : One align8-reads.Post (λ κ x e. x)
@@ -119,19 +121,19 @@ pub record Outcomes : Type 2 where
   pub total-size : One total-size-reads.Post (λ κ x e. x)
   -- image, check
   pub passes-check : One passes-check-reads.Post (λ κ x e. x)
-  -- image, lookup
-  pub revision-of : One revision-of-reads.Post (λ κ x e. x)
-  pub index-of : One index-of-reads.Post (λ κ x e. now x)
-  pub lookup-in : One lookup-in-reads.Post (λ κ x e. x)
+  pub check-refused : One check-refused-reads.Post (λ κ x e. x)
   -- image, probe
+  pub probe-for : One probe-for-reads.Post (λ κ x e. x)
+  -- image, table
   pub slot-at : One slot-at-reads.Post (λ κ x e. x)
   pub bucket-at : One bucket-at-reads.Post (λ κ x e. x)
   pub meta-of : One meta-of-reads.Post (λ κ x e. x)
   pub key-of : One key-of-reads.Post (λ κ x e. now x)
+  pub revision-of : One revision-of-reads.Post (λ κ x e. x)
+  pub index-of : One index-of-reads.Post (λ κ x e. now x)
   pub hash64-of : One hash64-of-reads.Post (λ κ x e. x)
   pub slot-plus1-of : One slot-plus1-of-reads.Post (λ κ x e. x)
   pub next-bucket : One next-bucket-reads.Post (λ κ x e. x)
-  pub probe-for : One probe-for-reads.Post (λ κ x e. x)
   -- listing, listed
   pub refused : One refused-reads.Post (λ κ x e. x)
   -- writing, fields
@@ -143,7 +145,6 @@ pub record Outcomes : Type 2 where
   -- slots, slots
   pub rewrite : One rewrite-reads.Post (λ κ x e. now (arg1 e))
   pub remove : One remove-reads.Post (λ κ x e. now (arg1 e))
-  pub index-slot : One index-slot-reads.Post (λ κ x e. now (arg1 e))
   pub append : One append-reads.Post (λ κ x e. now (arg1 e))
   pub rebuild : One rebuild-reads.Post (λ κ x e. now (arg1 e))
   pub publish : One publish-reads.Post (λ κ x e. now (arg1 e))

@@ -1,40 +1,23 @@
 // Runs the full check on the image that it reads from standard input, and prints its four numbers.
 ghost use mathlib.Core.Path.{_≡_};
-ghost use Rattle.fullcheck.specs.Program.{benchOptions, programOf};
+ghost use Rattle.fullcheck.specs.Program.{programOf};
 use header::answer::INVALID_INPUT;
-use header::options::Options;
+use header::options::bench;
+use header::state::NO_WRITER_KNOWN;
 use image::check::Checked;
 use image::check::full_check;
+use image::check::refused;
 use libc::STDIN_FILENO;
 use libc::STDOUT_FILENO;
-
-// The options of the bench: key 12, index 20, capacity 512, user_version 1, unordered, role 0.
-fn bench() -> Options
-    ensures { λ r. ⌜ r ≡ benchOptions ⌝ }
-{
-    Options {
-        key_size: 12,
-        index_size: 20,
-        slot_capacity: 512,
-        user_version: 1,
-        ordered: 0,
-        role: 0,
-    }
-}
 
 // The full check of the image; 7 where the input was longer than the program holds.
 fn checked(image: &[u8], longer: bool) -> Checked
     ensures { λ r. ⌜ r ≡ programOf (now (image .entry)) longer ⌝ }
 {
     if longer {
-        return Checked {
-            answer: INVALID_INPUT,
-            live: 0,
-            tombstones: 0,
-            probes: 0,
-        };
+        return refused(INVALID_INPUT);
     }
-    full_check(image, bench())
+    full_check(image, bench(NO_WRITER_KNOWN))
 }
 
 // Writes a word and a number.

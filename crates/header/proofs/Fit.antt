@@ -14,7 +14,7 @@ use Rattle.header.specs.HeaderTest.{headerTest, layoutOf, shapeOf, verdi
 use Rattle.header.specs.Shaped.{Shaped}
 use Rattle.header.specs.Sizes.{sizesAllowed, bucketCount}
 use Rattle.header.proofs.Allowed.{allowed}
-use Rattle.header.proofs.Said.{Agreed, agreed, ruled, allowed-passed, length-passed, extent-passed, counters-passed}
+use Rattle.header.proofs.PassedTests.{Agreed, agreed, ruled, allowed-passed, length-passed, extent-passed, counters-passed}
 use Rattle.header.proofs.SizeLaws.{bucket-count-room, bucket-count-limit}
 use Rattle.header.proofs.Stages.{Passes, passes}
 

@@ -5,7 +5,7 @@ pub mod FieldBytes
 pub mod Firsts
 pub mod Fit
 pub mod Power
-pub mod Said
+pub mod PassedTests
 pub mod SizeLaws
 pub mod Stages
 pub mod Table

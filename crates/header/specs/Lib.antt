@@ -7,3 +7,4 @@ pub mod HeaderTest
 pub mod Shaped
 pub mod Counters
 pub mod Open
+pub mod Bench

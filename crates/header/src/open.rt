@@ -12,10 +12,13 @@ use crate::options::Options;
 use crate::shape::Judged;
 use numbers::parts::copy_to;
 
+// The user data are so many bytes.
+pub const USER_DATA_SIZE: usize = 64;
+
 // The fields that are the caller's own, by value.
 pub struct UserFields {
     pub user_flags: u64,
-    pub user_data: [u8; 64],
+    pub user_data: [u8; USER_DATA_SIZE],
 }
 
 pub struct Opened {
@@ -28,7 +31,7 @@ fn user_fields(image: &[u8]) -> UserFields
     requires { ⌜ 256 ≤ length (now image) ⌝ }
     ensures { λ r. ⌜ r ≡ userFields (now (image .entry)) ⌝ }
 {
-    let mut bytes = [0u8; 64];
+    let mut bytes = [0u8; USER_DATA_SIZE];
     copy_to(&mut bytes, 0, bytes_in(image, fields::USER_DATA));
     UserFields {
         user_flags: read(image, fields::USER_FLAGS),
@@ -44,7 +47,7 @@ fn refused(answer: u32) -> Opened
         answer,
         fields: UserFields {
             user_flags: 0,
-            user_data: [0u8; 64],
+            user_data: [0u8; USER_DATA_SIZE],
         },
     }
 }

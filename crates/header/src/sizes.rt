@@ -6,11 +6,11 @@ ghost use Rattle.header.specs.Sizes.{align8 as aligned, slotSize, powerF
 ghost use Rattle.header.specs.HeaderTest.{powerOfTwo};
 use crate::options::Options;
 
-pub const MOST_KEY_SIZE: u64 = 64;
+const MOST_KEY_SIZE: u64 = 64;
 
-pub const MOST_INDEX_SIZE: u64 = 256;
+const MOST_INDEX_SIZE: u64 = 256;
 
-pub const MOST_SLOT_CAPACITY: u64 = 4096;
+const MOST_SLOT_CAPACITY: u64 = 4096;
 
 // Whether the sizes of the options are allowed.
 pub fn sizes_allowed(o: Options) -> bool

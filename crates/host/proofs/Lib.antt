@@ -1,4 +1,4 @@
-pub mod Held
+pub mod AgeByBits
 pub mod Failed
 pub mod PlaceLaws
 pub mod UserDataLaws

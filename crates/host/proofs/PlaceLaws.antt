@@ -11,7 +11,7 @@ use Rattle.header.specs.FirstOf.{firstOf}
 use Rattle.header.specs.HeaderTest.{test1}
 use Rattle.header.specs.Sizes.{sizesAllowed, slotSize, totalSize}
 use Rattle.header.proofs.Allowed.{Allowed, allowed}
-use Rattle.header.proofs.Said.{allowed-passed}
+use Rattle.header.proofs.PassedTests.{allowed-passed}
 use Rattle.header.proofs.SizeLaws.{slot-size-limit, capacity-limit}
 use Rattle.host.specs.Places.{totalOf, placeIn}
 use Rattle.host.proofs.Failed.{after-failed}

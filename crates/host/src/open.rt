@@ -5,6 +5,7 @@ ghost use Rattle.header.specs.Open.{openOf};
 ghost use Rattle.host.specs.UserData.{Fills, userDataOf};
 use header::answer::DONE;
 use header::answer::TOO_SHORT;
+use header::open::USER_DATA_SIZE;
 use header::open::open_check;
 use header::options::Options;
 use numbers::parts::copy_to;
@@ -93,7 +94,7 @@ pub extern "C" fn slc1_user_data(
     if opened.answer != DONE {
         return opened.answer;
     }
-    if out.len() < 64 {
+    if out.len() < USER_DATA_SIZE {
         return TOO_SHORT;
     }
     let fields = opened.fields;

@@ -11,6 +11,7 @@ ghost use Rattle.host.specs.UserData.{setUserFieldsFrom};
 use commit::commit::commit_batch;
 use header::answer::INVALID_INPUT;
 use header::judge::judge;
+use header::open::USER_DATA_SIZE;
 use header::open::UserFields;
 use header::options::Options;
 use header::shape::Judged;
@@ -158,10 +159,10 @@ pub extern "C" fn slc1_set_user_fields(
         ordered,
         role,
     };
-    if user_data.len() != 64 {
+    if user_data.len() != USER_DATA_SIZE {
         return other_length(image, o);
     }
-    let mut bytes = [0u8; 64];
+    let mut bytes = [0u8; USER_DATA_SIZE];
     copy_to(&mut bytes, 0, user_data);
     set_user_fields(
         image,

@@ -3,5 +3,5 @@ pub mod Judging
 pub mod Looked
 pub mod Passes
 pub mod Places
-pub mod Steps
+pub mod BucketSays
 pub mod Tally

@@ -9,6 +9,9 @@ use lib.Dec.{eqb}
 use lib.ListN.{length}
 use borrow.Author.Tests.{eq-eqb, ne-eqb}
 use Rattle.probing.specs.Probe.{Probed, found, absent, broken}
+use Rattle.probing.specs.Sound.{Sound}
+use Rattle.probing.proofs.Keys.{not-both}
+use Rattle.probing.proofs.Reading.{never-broken}
 use Rattle.probing.proofs.Reading.Ends.{found-run}
 use Rattle.header.specs.declared.shape.Shape.{Shape}
 use Rattle.header.specs.declared.options.Options.{Options}
@@ -20,7 +23,7 @@ use Rattle.image.specs.declared.lookup.Lookup.{Lookup}
 use Rattle.image.specs.declared.probe.Probe.{Probe}
 use Rattle.image.specs.declared.probe.Probe.the-variants.{Found, Absent, Broken}
 use Rattle.image.specs.Table.{tableOf, indexOf}
-use Rattle.image.specs.Lookup.{told, probeOf, nothing, lookupBy, lookupIn, lookupOf, indexPart}
+use Rattle.image.specs.Lookup.{told, probeOf, isFound, isLive, nothing, lookupBy, lookupIn, lookupOf, indexPart}
 use Rattle.image.proofs.Judging.{after-fit, after-refused}
 
 -- what the code tells of a probe's end is that end
@@ -85,3 +88,14 @@ module _ (o : Options) (image key : List ℕ) where
   pub index-none : (l : Lookup) → l ≡ lookupOf o image key → (l .answer ≡ done → ⊥) → [] ≡ indexPart o image key
   unfolding indexPart
   index-none l q other = rw (← q, ne-eqb (l .answer) done other)
+
+-- a key that is not live in a sound table is absent
+pub not-live : (s : Shape) (image : List ℕ) → Sound (tableOf s image) → (key : List ℕ) → isLive s image key ≡ false
+    → (count : ℕ) × (probeOf s image key ≡ absent count)
+unfolding isLive probeOf
+not-live s image sound key e = go (probeOf s image key) e refl
+  where
+    go : (p : Probed) → isFound p ≡ false → probeOf s image key ≡ p → (count : ℕ) × (probeOf s image key ≡ absent count)
+    go (found n count) f q = absurd (not-both refl f)
+    go (absent count) f q = (count, q)
+    go broken f q = absurd (never-broken (tableOf s image) sound key q)

@@ -36,7 +36,7 @@ fn refused(answer: u32) -> Lookup
 }
 
 // Lookup in an image that passed the header test.
-pub fn lookup_in(image: &[u8], s: Shape, key: &[u8]) -> Lookup
+fn lookup_in(image: &[u8], s: Shape, key: &[u8]) -> Lookup
     requires { ⌜ Shaped s (now image) ⌝ }
     ensures { λ r. ⌜ r ≡ lookupIn s (now (image .entry)) (now (key .entry)) ⌝ }
 {

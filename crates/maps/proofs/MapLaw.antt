@@ -28,8 +28,8 @@ use Rattle.applying.specs.Apply.{afterLive, afterNew, committed}
 use Rattle.commit.specs.Commit.{commitTests, commitOf}
 use Rattle.maps.specs.Map.{Entry, mapOf, entryIn, applied}
 use Rattle.batch.proofs.NewRanks.{is-new, new-is, new-at, rank-inside, new-placed}
-use Rattle.maps.proofs.Grown.{Ready, new-grown}
-use Rattle.maps.proofs.Accepted.{accepted-facts}
+use Rattle.soundness.proofs.Grown.{Ready, new-grown}
+use Rattle.soundness.proofs.Accepted.{accepted-facts}
 use Rattle.maps.proofs.Applied.{said, Deciding, Unnamed, deciding-one, deciding-or-unnamed, applied-unnamed, applied-deciding}
 use Rattle.maps.proofs.MapSlots.{Has, Lacks, has-live, lacks-live, has-or-lacks, map-has, map-lacks}
 use Rattle.maps.proofs.MapLive.{ifThere, live-unnamed, live-decided}

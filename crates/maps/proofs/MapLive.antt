@@ -26,11 +26,11 @@ use Rattle.batch.proofs.NewRanks.{is-new}
 use Rattle.applying.specs.Apply.{onLive, acted, actedTo, afterLive}
 use Rattle.maps.specs.Map.{Entry, entryAt, entryIn, mapOf}
 use Rattle.batch.proofs.Records.{record-length}
-use Rattle.maps.proofs.Formed.{Formed}
-use Rattle.maps.proofs.Live.{live-kept}
+use Rattle.soundness.proofs.Formed.{Formed}
+use Rattle.soundness.proofs.Live.{live-kept}
 use Rattle.maps.proofs.Applied.{said, Deciding, deciding-one}
 use Rattle.maps.proofs.MapSlots.{Has, found-has}
-use Rattle.maps.proofs.MapSteps.{rewritten-same, rewritten-else, removed-same, removed-else}
+use Rattle.maps.proofs.MapWrites.{rewritten-same, rewritten-else, removed-same, removed-else}
 
 -- what a key gets that has something; a key that has nothing still has nothing
 abbrev pub ifThere : Option Entry → Option Entry → Option Entry

@@ -25,9 +25,9 @@ use Rattle.applying.specs.Apply.{afterLive, afterNew}
 use Rattle.maps.specs.Map.{Entry, entryIn, mapOf}
 use Rattle.batch.proofs.Records.{record-length}
 use Rattle.batch.proofs.NewRanks.{is-new, new-at}
-use Rattle.maps.proofs.Grown.{as-many, slot-more, Ready, new-grown}
+use Rattle.soundness.proofs.Grown.{as-many, slot-more, Ready, new-grown}
 use Rattle.maps.proofs.Applied.{Deciding, deciding-one}
-use Rattle.maps.proofs.MapSteps.{appended-same, appended-else}
+use Rattle.maps.proofs.MapWrites.{appended-same, appended-else}
 
 module _ (s : Shape) (image batch : List ℕ) (ready : Ready s image batch) where
   fit : (r : ℕ) → r ≤ newCount (s .layout) (isLive s image) batch → Shaped (withSlots s (s .«slot_highwater» + r)) (afterNew s image batch r)

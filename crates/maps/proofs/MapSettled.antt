@@ -16,11 +16,11 @@ use Rattle.slots.proofs.Table.Counted as write
 use Rattle.header.specs.Counters.{withCounters, withSlots}
 use Rattle.applying.specs.Apply.{tidied, recounted, settled}
 use Rattle.maps.specs.Map.{mapOf}
-use Rattle.maps.proofs.Formed.{Formed}
-use Rattle.maps.proofs.Settled.{is-tidy, recounted-fit, settled-shape}
+use Rattle.soundness.proofs.Formed.{Formed}
+use Rattle.soundness.proofs.Settled.{is-tidy, recounted-fit, settled-shape}
 use Rattle.maps.proofs.MapSlots.{map-kept}
-use Rattle.maps.proofs.MapShape.{same-map}
-use Rattle.maps.proofs.MapSteps.{same-has, has-same, same-entry}
+use Rattle.maps.proofs.SameMap.{same-map}
+use Rattle.maps.proofs.MapWrites.{same-has, has-same, same-entry}
 
 -- Where n slots are given out and the rest of the shape is the header's, settling leaves the map, read by the new header.
 module _ (s : Shape) (n : ℕ) (image : List ℕ) (head : shapeOf image ≡ s) (fit : Shaped (withSlots s n) image)

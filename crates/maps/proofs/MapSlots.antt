@@ -8,7 +8,7 @@ use mathlib.Core.List.{List}
 use mathlib.Core.Option.{some, none}
 use Rattle.probing.specs.Probe.{Probed, found, absent, broken}
 use Rattle.probing.specs.Sound.{Sound}
-use Rattle.probing.proofs.Keys.{clash, not-both}
+use Rattle.probing.proofs.Keys.{clash}
 use Rattle.probing.proofs.Reading.{never-broken, found-iff, absent-iff}
 use Rattle.header.specs.declared.shape.Layout.{Layout}
 use Rattle.header.specs.declared.shape.Shape.{Shape}
@@ -58,16 +58,6 @@ module _ (s : Shape) (image : List ℕ) (sound : Sound (tableOf s image)) (k : L
   pub lacks-live : Lacks s image k → isLive s image k ≡ false
   unfolding isLive
   lacks-live h = ap isFound (lacks-absent h .1)
-
-  -- a key that is not live is absent
-  pub not-live : isLive s image k ≡ false → (count : ℕ) × (probeOf s image k ≡ absent count)
-  unfolding isLive probeOf
-  not-live e = go (probeOf s image k) e refl
-    where
-      go : (p : Probed) → isFound p ≡ false → probeOf s image k ≡ p → (count : ℕ) × (probeOf s image k ≡ absent count)
-      go (found n count) f q = absurd (not-both refl f)
-      go (absent count) f q = (count, q)
-      go broken f q = absurd (never-broken (tableOf s image) sound k q)
 
   -- it does one or the other
   pub has-or-lacks : ((n : ℕ) × Has s image k n) ⊎ Lacks s image k

@@ -78,7 +78,7 @@ fn place_of(image: &[u8], s: Shape, hash: u64) -> usize
 }
 
 // Puts slot n into the index by its key.
-pub fn index_slot(image: &mut [u8], s: Shape, n: usize)
+fn index_slot(image: &mut [u8], s: Shape, n: usize)
     requires { ⌜ Shaped s (now image) ⌝ }
     requires { ⌜ n < s .layout .«slot_capacity» ⌝ }
     ensures { λ r. ⌜ now (image .exit) ≡ indexed s (now (image .entry)) n ⌝ }

@@ -21,8 +21,8 @@ use Rattle.writing.proofs.Bytes.{Bytes, put-bytes, bytes-of-bytes}
 use Rattle.writing.proofs.FieldList.{Fitting, after, fields-length, fields-value}
 use Rattle.writing.proofs.Seal.{seal-other, seal-crc}
 use Rattle.writing.proofs.Tests.{even-passed, crc-passed, state-passed, header-holds, stateTests}
-use Rattle.writing.proofs.Kept.{Kept, passing, kept-written, header-kept}
-use Rattle.writing.proofs.KeptTable.{moved, kept-shape, same-table}
+use Rattle.writing.proofs.Lasting.{Kept, passing, kept-written, header-kept}
+use Rattle.writing.proofs.LastingTable.{moved, kept-shape, same-table}
 
 pub record Became (o : Options) (image image′ : List ℕ) (state generation : ℕ) : Type 0 where
   pub kept : Kept image image′

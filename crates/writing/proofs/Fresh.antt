@@ -18,7 +18,7 @@ use Rattle.header.specs.Open.{userFields, noFields}
 use Rattle.header.specs.Sizes.{totalSize}
 use Rattle.header.proofs.Allowed.{Allowed, allowed, offset-fits}
 use Rattle.header.proofs.Firsts.{first-none}
-use Rattle.header.proofs.Said.{allowed-passed}
+use Rattle.header.proofs.PassedTests.{allowed-passed}
 use Rattle.header.proofs.SizeLaws.{slot-size-limit, bucket-count-high}
 use Rattle.writing.specs.Write.{withFields, sealed}
 use Rattle.writing.specs.Create.{createTests, freshFields, fresh, createOf}

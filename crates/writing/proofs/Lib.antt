@@ -4,11 +4,11 @@ pub mod Bytes
 pub mod CrcBound
 pub mod Seal
 pub mod Tests
-pub mod Kept
-pub mod KeptTable
+pub mod Lasting
+pub mod LastingTable
 pub mod Answers
 pub mod Making
-pub mod Told
+pub mod Verdicts
 pub mod Roles
 pub mod StateCode
 pub mod MoreTests

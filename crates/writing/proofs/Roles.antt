@@ -18,10 +18,10 @@ use Rattle.header.specs.State.{no-writer-known, another-writer}
 use Rattle.header.specs.HeaderTest.{test1, test2, test3, test4, test5, test6, test7, test8, test9, test10, test11, test12, headerTests, headerTest, judged}
 use Rattle.header.proofs.Firsts.{named, first-stops, first-none}
 use Rattle.header.proofs.Fit.{fit-number, fit-shape, refused-number}
-use Rattle.header.proofs.Said.{length-passed}
+use Rattle.header.proofs.PassedTests.{length-passed}
 use Rattle.header.proofs.Stages.{header-named}
 use Rattle.writing.specs.State.{writingTests}
-use Rattle.writing.proofs.Told.{toldBy, tells-number}
+use Rattle.writing.proofs.Verdicts.{toldBy, tells-number}
 use Rattle.writing.proofs.Tests.{past, even-passed, Holds, header-holds}
 
 module _ (o : Options) (image : List ℕ) where

@@ -16,6 +16,7 @@ use header::answer::DONE;
 use header::answer::NEEDS_REBUILD;
 use header::fields;
 use header::fields::field_of;
+use header::open::USER_DATA_SIZE;
 use header::open::UserFields;
 use header::options::Options;
 use header::shape::Judged;
@@ -92,7 +93,7 @@ pub fn invalidate(image: &mut [u8], o: Options) -> u32
 }
 
 // Puts the user data into its field.
-fn write_user_data(image: &mut [u8], bytes: [u8; 64])
+fn write_user_data(image: &mut [u8], bytes: [u8; USER_DATA_SIZE])
     requires { ⌜ 256 ≤ length (now image) ⌝ }
     ensures { λ r. ⌜ now (image .exit) ≡ withUserData (now (image .entry)) bytes ⌝ }
 {

@@ -11,7 +11,7 @@ use Rattle.slots.proofs.Table.Around.{around-shaped}
 use Rattle.batch.specs.Batch.{recordCount}
 use Rattle.batch.specs.Marks.{isMarked}
 use Rattle.applying.specs.Apply.{acted, actedTo}
-use Rattle.applying.proofs.Kept.{live-all-kept}
+use Rattle.applying.proofs.StepsKeepHeader.{live-all-kept}
 use Rattle.applying.proofs.apply.act_all.Statement.{statement}
 use Rattle.applying.proofs.apply.act_all.Tie as tie
 

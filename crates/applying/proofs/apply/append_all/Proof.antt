@@ -9,7 +9,7 @@ use lib.ListN.{length}
 use Rattle.header.specs.Shaped.{Shaped}
 use Rattle.slots.proofs.Table.Around.{around-shaped}
 use Rattle.applying.specs.Prepared.{oneAppended, appendedTo}
-use Rattle.applying.proofs.Kept.{new-all-kept}
+use Rattle.applying.proofs.StepsKeepHeader.{new-all-kept}
 use Rattle.applying.proofs.apply.append_all.Statement.{statement}
 use Rattle.applying.proofs.apply.append_all.Tie as tie
 

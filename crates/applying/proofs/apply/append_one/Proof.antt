@@ -12,7 +12,7 @@ use Rattle.batch.specs.Marks.{markedAt}
 use lib.ListN.{length}
 use Rattle.header.specs.Counters.{withCounters, withSlots}
 use Rattle.applying.specs.Prepared.{oneAppended}
-use Rattle.applying.proofs.Kept.{slots-shaped}
+use Rattle.applying.proofs.StepsKeepHeader.{slots-shaped}
 use Rattle.batch.proofs.Records.{record-length}
 use borrow.Author.Needs.{needs}
 use Rattle.applying.proofs.apply.append_one.Statement.{statement}

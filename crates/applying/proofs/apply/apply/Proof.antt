@@ -11,7 +11,7 @@ use Rattle.batch.specs.Batch.{recordCount}
 use Rattle.batch.specs.Marks.{isMarked}
 use Rattle.applying.specs.Apply.{actedTo}
 use Rattle.applying.specs.Prepared.{appendedTo}
-use Rattle.applying.proofs.Kept.{around-generation, slots-shaped, live-all-kept, new-all-kept}
+use Rattle.applying.proofs.StepsKeepHeader.{around-generation, slots-shaped, live-all-kept, new-all-kept}
 use Rattle.applying.proofs.Applied.{new-count-bound, marked-below, applied}
 use borrow.Author.Needs.{needs}
 use Rattle.applying.proofs.apply.apply.Statement.{statement}

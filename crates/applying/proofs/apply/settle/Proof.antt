@@ -6,7 +6,7 @@ use mathlib.Core.List.{List}
 use native.Mathlib.Omega.{arith}
 use lib.ListN.{length}
 use Rattle.header.specs.Fields.{value, generation}
-use Rattle.applying.proofs.Kept.{around-generation, header-inside, tidied-kept}
+use Rattle.applying.proofs.StepsKeepHeader.{around-generation, header-inside, tidied-kept}
 use Rattle.applying.proofs.Acting.{settled-by}
 use borrow.Author.Needs.{needs}
 use Rattle.applying.proofs.apply.settle.Statement.{statement}

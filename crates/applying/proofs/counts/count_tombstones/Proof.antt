@@ -13,7 +13,7 @@ use Rattle.probing.proofs.Change.{count-more}
 use Rattle.header.specs.declared.shape.Shape.{Shape}
 use Rattle.batch.proofs.Every.{one-le}
 use Rattle.probing.specs.Table.{isTombstone, tombstoneCount}
-use Rattle.image.specs.Table.{bucketOf, tableOf}
+use Rattle.image.specs.Table.{all-ones, bucketOf, tableOf}
 use Rattle.applying.proofs.Tombstones.{is-tombstone}
 use Rattle.applying.proofs.counts.count_tombstones.Statement.{statement}
 use Rattle.applying.proofs.counts.count_tombstones.Tie as tie
@@ -34,7 +34,7 @@ added : (c : tie.After-one-if Inv-loop μ-loop)
     c .one-if .result ≡ one (gone (a .s) (a .image .now) (c .before .before .before .loop .b))
 added c =
     let a = c .before .before .before .before .before .args in
-    c .one-if .ensures ∙ ap (λ (m : ℕ). one (eqb m 18446744073709551615)) (c .before .slot-plus1-of .ensures)
+    c .one-if .ensures ∙ ap (λ (m : ℕ). one (eqb m all-ones)) (c .before .slot-plus1-of .ensures)
     ∙ ap one (is-tombstone (a .s) (a .image .now) (c .before .before .before .loop .b))
 
 loop-holds : tie.Need-loop-holds Inv-loop μ-loop

@@ -3,7 +3,7 @@
 use native.Mathlib.Omega.{arith}
 use borrow.Author.Tests.{eq-eqb, ne-eqb, lt-ltb, le-ltb}
 use Rattle.batch.proofs.Records.{sizes}
-use Rattle.batch.specs.Batch.{recordCount, batchWrong}
+use Rattle.batch.specs.Batch.{most-records, recordCount, batchWrong}
 use borrow.Author.Needs.{needs}
 use Rattle.batch.proofs.batch.batch_wrong.Statement.{statement}
 use Rattle.batch.proofs.batch.batch_wrong.Tie as tie
@@ -20,14 +20,14 @@ record-count-requires c κs = search needs
 
 returns-2 : tie.Need-returns-2
 unfolding batchWrong
-returns-2 c = rw (eq-eqb _ 0 (c .before .before .if1 .left), lt-ltb 64 (recordCount (c .before .before .before .before .before .args .l) (c .before .before .before .before .before .args .batch .now)) (omega arith))
+returns-2 c = rw (eq-eqb _ 0 (c .before .before .if1 .left), lt-ltb most-records (recordCount (c .before .before .before .before .before .args .l) (c .before .before .before .before .before .args .batch .now)) (omega arith))
 
 some-malformed-requires : tie.Need-some-malformed-requires
 some-malformed-requires c κs = search needs
 
 returns-3 : tie.Need-returns-3
 unfolding batchWrong
-returns-3 c = rw (eq-eqb _ 0 (c .before .before .before .if1 .left), le-ltb 64 (recordCount (c .before .before .before .before .before .before .args .l) (c .before .before .before .before .before .before .args .batch .now)) (omega arith)) (c .some-malformed .ensures)
+returns-3 c = rw (eq-eqb _ 0 (c .before .before .before .if1 .left), le-ltb most-records (recordCount (c .before .before .before .before .before .before .args .l) (c .before .before .before .before .before .before .args .batch .now)) (omega arith)) (c .some-malformed .ensures)
 
 pub batch-wrong-spec : {M : Type 1} → statement M
 batch-wrong-spec =

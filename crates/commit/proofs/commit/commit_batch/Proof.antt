@@ -11,7 +11,7 @@ use Rattle.writing.specs.State.{userTests}
 use Rattle.writing.proofs.Answers.{says-refused}
 use Rattle.writing.proofs.Bytes.{Bytes}
 use Rattle.writing.proofs.StateLaws.{next-fits}
-use Rattle.writing.proofs.Told.{told-passed, told-shape, told-number}
+use Rattle.writing.proofs.Verdicts.{told-passed, told-shape, told-number}
 use Rattle.writing.proofs.MoreTests.{change-writing, change-generation}
 use Rattle.writing.proofs.Roles.{passed-header, passed-long, passed-even}
 use Rattle.commit.specs.Commit.{commitOf}

@@ -9,7 +9,7 @@ use lib.ListN.{length, length-set}
 use Rattle.batch.proofs.Filled.{Filled, fill-none, fill-one}
 use Rattle.header.specs.declared.shape.Shape.{Shape}
 use Rattle.probing.specs.Counting.{one}
-use Rattle.batch.specs.Batch.{recordCount}
+use Rattle.batch.specs.Batch.{most-records, recordCount}
 use Rattle.image.specs.Lookup.{isLive}
 use Rattle.batch.specs.NewKeys.{isNew}
 use Rattle.commit.proofs.new_keys.flag_new_keys.Statement.{statement}
@@ -20,7 +20,7 @@ abbrev ones : Shape → List ℕ → List ℕ → ℕ → ℕ
 ones s image batch i = one (isNew (s .layout) (isLive s image) batch i)
 
 abbrev Inv-loop : tie.InvT-loop
-Inv-loop image s batch count flags₀ i₀ flags i = (count ≡ recordCount (s .layout) batch) × (i ≤ count) × (length flags ≡ 64) × Filled (ones s image batch) flags i
+Inv-loop image s batch count flags₀ i₀ flags i = (count ≡ recordCount (s .layout) batch) × (i ≤ count) × (length flags ≡ most-records) × Filled (ones s image batch) flags i
 
 abbrev μ-loop : tie.MeasureT-loop
 μ-loop image s batch count flags₀ i₀ flags i = count - i
@@ -29,7 +29,7 @@ record-count-requires : tie.Need-record-count-requires Inv-loop μ-loop
 record-count-requires c κs = search needs
 
 loop-holds : tie.Need-loop-holds Inv-loop μ-loop
-loop-holds c = (search needs, search needs, refl, fill-none _ 64)
+loop-holds c = (search needs, search needs, refl, fill-none _ most-records)
 
 is-new-requires : tie.Need-is-new-requires Inv-loop μ-loop
 is-new-requires c κs = search needs

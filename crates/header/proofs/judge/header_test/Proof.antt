@@ -4,7 +4,7 @@ use denote.Ref.{now}
 use Rattle.header.specs.HeaderTest.{test1, test2}
 use Rattle.header.proofs.Firsts.{first-stops, first-after}
 use Rattle.header.proofs.Stages.{written, staged, written-named}
-use Rattle.header.proofs.Said.{allowed-passed, length-passed}
+use Rattle.header.proofs.PassedTests.{allowed-passed, length-passed}
 use mathlib.Core.Path.{sym, _∙_}
 use borrow.Author.Needs.{needs}
 use Rattle.header.proofs.judge.header_test.Statement.{statement}

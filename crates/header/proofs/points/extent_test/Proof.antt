@@ -8,7 +8,7 @@ use native.Mathlib.Omega.{arith}
 use Rattle.header.specs.FirstOf.{firstOf}
 use Rattle.header.specs.HeaderTest.{test10}
 use Rattle.header.proofs.Allowed.{allowed}
-use Rattle.header.proofs.Said.{agreed, pinned-offset, pinned-buckets}
+use Rattle.header.proofs.PassedTests.{agreed, pinned-offset, pinned-buckets}
 use borrow.Author.Needs.{needs}
 use Rattle.header.proofs.points.extent_test.Statement.{statement}
 use Rattle.header.proofs.points.extent_test.Tie as tie

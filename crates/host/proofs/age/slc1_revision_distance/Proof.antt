@@ -1,6 +1,6 @@
 -- `host::age::slc1_revision_distance` meets its contract.
 -- Assumes nothing.
-use Rattle.host.proofs.Held.{distance-held}
+use Rattle.host.proofs.AgeByBits.{distance-held}
 use borrow.Author.Needs.{needs}
 use Rattle.host.proofs.age.slc1_revision_distance.Statement.{statement}
 use Rattle.host.proofs.age.slc1_revision_distance.Tie as tie

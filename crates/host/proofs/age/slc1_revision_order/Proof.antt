@@ -1,6 +1,6 @@
 -- `host::age::slc1_revision_order` meets its contract.
 -- Assumes nothing.
-use Rattle.host.proofs.Held.{order-held}
+use Rattle.host.proofs.AgeByBits.{order-held}
 use borrow.Author.Needs.{needs}
 use Rattle.host.proofs.age.slc1_revision_order.Statement.{statement}
 use Rattle.host.proofs.age.slc1_revision_order.Tie as tie

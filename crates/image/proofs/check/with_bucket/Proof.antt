@@ -7,7 +7,7 @@ use mathlib.Core.Bool.{Bool, _&&_}
 use native.Mathlib.Omega.{arith}
 use Rattle.probing.specs.Table.{FULL}
 use Rattle.image.specs.Table.{tableOf, bucketOf}
-use Rattle.image.proofs.Steps.{from-empty, from-tombstone, from-full}
+use Rattle.image.proofs.BucketSays.{from-empty, from-tombstone, from-full}
 use Rattle.image.proofs.Tally.{more-empty, more-tombstone, more-full, tombstones-small, full-small}
 use Rattle.image.proofs.check.with_bucket.Statement.{statement}
 use Rattle.image.proofs.check.with_bucket.Tie as tie

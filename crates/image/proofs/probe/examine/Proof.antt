@@ -6,7 +6,7 @@ use Prim.Native.Nat.{ℕ, _-_}
 use Rattle.probing.specs.Table.{FULL}
 use Rattle.probing.specs.Probe.{examine}
 use Rattle.image.specs.Table.{bucketOf, tableOf}
-use Rattle.image.proofs.Steps.{from-empty, from-tombstone, from-full}
+use Rattle.image.proofs.BucketSays.{from-empty, from-tombstone, from-full}
 use Rattle.image.proofs.probe.examine.Statement.{statement}
 use Rattle.image.proofs.probe.examine.Tie as tie
 

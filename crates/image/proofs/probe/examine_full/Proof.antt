@@ -8,7 +8,7 @@ use Prim.Native.Nat.{ℕ}
 use Rattle.numbers.specs.Bytes.{same}
 use Rattle.digests.specs.Fnv.{fnv1a64}
 use Rattle.image.specs.Table.{keyOf}
-use Rattle.image.proofs.Steps.{full-past, full-other-hash, full-other-key, full-live, full-dead}
+use Rattle.image.proofs.BucketSays.{full-past, full-other-hash, full-other-key, full-live, full-dead}
 use Rattle.image.proofs.probe.examine_full.Statement.{statement}
 use Rattle.image.proofs.probe.examine_full.Tie as tie
 

@@ -10,7 +10,7 @@ use Rattle.image.specs.Table.{tableOf}
 use Rattle.image.specs.Lookup.{probeOf, told}
 use Rattle.image.specs.declared.probe.Step.{Step}
 use Rattle.image.specs.Step.{ends}
-use Rattle.image.proofs.Steps.{probe-turn, probe-out}
+use Rattle.image.proofs.BucketSays.{probe-turn, probe-out}
 use Rattle.image.proofs.probe.probe_for.Statement.{statement}
 use Rattle.image.proofs.probe.probe_for.Tie as tie
 

@@ -4,7 +4,7 @@ use denote.Ref.{now}
 use mathlib.Core.Path.{sym, _∙_}
 use native.Mathlib.Omega.{arith}
 use Rattle.writing.specs.State.{writingTests, userTests}
-use Rattle.writing.proofs.Told.{tells-number, tells-shape, told-passed, told-shape, told-state, told-generation, told-number}
+use Rattle.writing.proofs.Verdicts.{tells-number, tells-shape, told-passed, told-shape, told-state, told-generation, told-number}
 use Rattle.writing.proofs.MoreTests.{user-stops, user-clean, user-last, user-passes}
 use borrow.Author.Needs.{needs}
 use Rattle.writing.proofs.judge.judge_change.Statement.{statement}

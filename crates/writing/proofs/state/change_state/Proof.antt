@@ -4,7 +4,7 @@ use denote.Ref.{now}
 use mathlib.Core.Path.{sym, _∙_}
 use Rattle.writing.specs.State.{writingTests}
 use Rattle.writing.proofs.Answers.{says-refused, says-accepted}
-use Rattle.writing.proofs.Told.{told-passed, told-state, told-number}
+use Rattle.writing.proofs.Verdicts.{told-passed, told-state, told-number}
 use Rattle.writing.proofs.Roles.{passed-long}
 use borrow.Author.Needs.{needs}
 use Rattle.writing.proofs.state.change_state.Statement.{statement}

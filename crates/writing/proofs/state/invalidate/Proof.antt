@@ -6,7 +6,7 @@ use native.Mathlib.Omega.{arith}
 use Rattle.writing.specs.State.{writingTests, invalidateOf}
 use Rattle.writing.proofs.Answers.{says-refused, says-accepted}
 use Rattle.writing.proofs.MoreTests.{invalidate-stops, invalidate-last, invalidate-passes}
-use Rattle.writing.proofs.Told.{told-passed, told-generation, told-number}
+use Rattle.writing.proofs.Verdicts.{told-passed, told-generation, told-number}
 use Rattle.writing.proofs.Roles.{passed-long, passed-even}
 use borrow.Author.Needs.{needs}
 use Rattle.writing.proofs.state.invalidate.Statement.{statement}

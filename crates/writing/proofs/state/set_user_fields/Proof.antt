@@ -4,7 +4,7 @@ use denote.Ref.{now}
 use mathlib.Core.Path.{sym, _∙_}
 use Rattle.writing.specs.State.{userTests, setUserFieldsOf}
 use Rattle.writing.proofs.Answers.{says-refused, says-accepted}
-use Rattle.writing.proofs.Told.{told-passed, told-generation, told-number}
+use Rattle.writing.proofs.Verdicts.{told-passed, told-generation, told-number}
 use Rattle.writing.proofs.MoreTests.{change-writing, change-generation, not-last}
 use Rattle.writing.proofs.Roles.{passed-long, passed-even}
 use borrow.Author.Needs.{needs}

@@ -11,7 +11,7 @@ use Rattle.image.specs.Table.{tableOf}
 use Rattle.image.specs.Lookup.{probeOf}
 use Rattle.slots.proofs.Table.Around.{SameSlot}
 use Rattle.maps.specs.Map.{entryAt, mapOf}
-use Rattle.maps.proofs.MapSteps.{same-entry}
+use Rattle.maps.proofs.MapWrites.{same-entry}
 
 -- the same table and slots that read as they did
 pub same-map : (s : Shape) (image image′ : List ℕ) → tableOf s image′ ≡ tableOf s image → ((n : ℕ) → SameSlot (s .layout) image image′ n) → (k : List ℕ)

@@ -32,12 +32,12 @@ use Rattle.batch.specs.NewKeys.{newCount, newAt}
 use Rattle.header.specs.Counters.{withCounters, withSlots}
 use Rattle.applying.specs.Apply.{afterLive, afterNew, tidied, recounted, committed}
 use Rattle.commit.specs.Commit.{commitTests, commitOf}
-use Rattle.maps.proofs.Live.{Spared, Kept, live-kept}
-use Rattle.maps.proofs.Grown.{Grown, new-grown}
-use Rattle.maps.proofs.Settled.{is-tidy, settled-length, settled-slot, settled-behind, settled-shape, settled-passes}
-use Rattle.maps.proofs.Lent.{new-lent, tidied-lent, committed-lent}
-use Rattle.maps.proofs.Header.{user-kept, header-passes}
-use Rattle.maps.proofs.Accepted.{Accepted, accepted-facts}
+use Rattle.soundness.proofs.Live.{Spared, Kept, live-kept}
+use Rattle.soundness.proofs.Grown.{Grown, new-grown}
+use Rattle.soundness.proofs.Settled.{is-tidy, settled-length, settled-slot, settled-behind, settled-shape, settled-passes}
+use Rattle.soundness.proofs.Lent.{new-lent, tidied-lent, committed-lent}
+use Rattle.soundness.proofs.Header.{user-kept, header-passes}
+use Rattle.soundness.proofs.Accepted.{Accepted, accepted-facts}
 
 -- the shape that a commit leaves: the counters are those of the table, the generation has moved on by 2
 unfoldable pub shapeAfter : List ℕ → List ℕ → Shape

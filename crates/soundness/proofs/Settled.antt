@@ -28,7 +28,7 @@ use Rattle.slots.proofs.Table.Rebuilt.{rebuilt-around, rebuilt-slot, rebuilt-ta
 use Rattle.slots.proofs.Table.Counted as write
 use Rattle.header.specs.Counters.{withCounters, withSlots}
 use Rattle.applying.specs.Apply.{tidied, recounted, settled}
-use Rattle.maps.proofs.Formed.{Formed, formed-clip, clip-formed, rebuilt-formed, rebuilt-clear, formed-passes}
+use Rattle.soundness.proofs.Formed.{Formed, formed-clip, clip-formed, rebuilt-formed, rebuilt-clear, formed-passes}
 
 -- What is left after "if 4 x tombstones > B, the index is rebuilt".
 pub record Tidy (s : Shape) (image image′ : List ℕ) : Type 0 where

@@ -23,14 +23,14 @@ use Rattle.writing.proofs.Bytes.{Bytes}
 use Rattle.writing.proofs.OneField.{apart}
 use Rattle.writing.proofs.FieldList.{misses}
 use Rattle.writing.proofs.Tests.{Holds, even-passed, header-by-state}
-use Rattle.writing.proofs.Kept.{any-role}
+use Rattle.writing.proofs.Lasting.{any-role}
 use Rattle.writing.proofs.UserLaws.{same-user}
 use Rattle.slots.proofs.Table.Around.{Around, around-bytes}
 use Rattle.slots.proofs.Table.Counted as write
 use Rattle.header.specs.Counters.{withCounters, withSlots}
 use Rattle.applying.specs.Apply.{tidied, recounted, settled}
-use Rattle.maps.proofs.Formed.{Formed}
-use Rattle.maps.proofs.Settled.{is-tidy, recounted-fit, settled-length}
+use Rattle.soundness.proofs.Formed.{Formed}
+use Rattle.soundness.proofs.Settled.{is-tidy, recounted-fit, settled-length}
 
 -- The image began as another, whose header it still has, and n slots are given out.
 module _ (o : Options) (start : List ℕ) (holds : Holds o start) (n : ℕ) (image : List ℕ) (around : Around (shapeOf start .layout) start image)

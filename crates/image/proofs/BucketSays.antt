@@ -13,20 +13,20 @@ use Rattle.probing.specs.Probe.{Probed, found, broken, next, examine, probeFrom
 use Rattle.header.specs.declared.shape.Shape.{Shape}
 use Rattle.image.specs.declared.probe.Step.{Step}
 use Rattle.image.specs.Step.{ends}
-use Rattle.image.specs.Table.{metaOf, keyOf, bucketFrom, tableOf}
+use Rattle.image.specs.Table.{all-ones, metaOf, keyOf, bucketFrom, tableOf}
 
 -- "0 EMPTY, all ones TOMBSTONE, else slot number plus 1"
 pub from-empty : (h plus1 : ℕ) → plus1 ≡ 0 → bucketFrom h plus1 ≡ EMPTY
 unfolding bucketFrom
 from-empty h plus1 e = rw (eq-eqb plus1 0 e)
 
-pub from-tombstone : (h plus1 : ℕ) → plus1 ≡ 18446744073709551615 → bucketFrom h plus1 ≡ TOMBSTONE
+pub from-tombstone : (h plus1 : ℕ) → plus1 ≡ all-ones → bucketFrom h plus1 ≡ TOMBSTONE
 unfolding bucketFrom
 from-tombstone h plus1 e = rw e
 
-pub from-full : (h plus1 : ℕ) → (plus1 ≡ 0 → ⊥) → (plus1 ≡ 18446744073709551615 → ⊥) → bucketFrom h plus1 ≡ FULL h (plus1 - 1)
+pub from-full : (h plus1 : ℕ) → (plus1 ≡ 0 → ⊥) → (plus1 ≡ all-ones → ⊥) → bucketFrom h plus1 ≡ FULL h (plus1 - 1)
 unfolding bucketFrom
-from-full h plus1 some other = rw (ne-eqb plus1 0 some, ne-eqb plus1 18446744073709551615 other)
+from-full h plus1 some other = rw (ne-eqb plus1 0 some, ne-eqb plus1 all-ones other)
 
 module _ (s : Shape) (image key : List ℕ) (h n count : ℕ) (onward : Probed) where
   -- a slot at or past highwater

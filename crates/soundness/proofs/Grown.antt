@@ -31,9 +31,9 @@ use Rattle.header.specs.Counters.{withCounters, withSlots}
 use Rattle.applying.specs.Apply.{afterLive, afterNew}
 use Rattle.commit.specs.Commit.{fallsBehind}
 use Rattle.batch.proofs.Records.{record-length}
-use Rattle.maps.proofs.Formed.{Formed, formed-clip, clip-formed, inserted-formed}
-use Rattle.maps.proofs.Live.{Kept, live-kept}
-use Rattle.maps.proofs.MapSlots.{not-live}
+use Rattle.soundness.proofs.Formed.{Formed, formed-clip, clip-formed, inserted-formed}
+use Rattle.soundness.proofs.Live.{Kept, live-kept}
+use Rattle.image.proofs.Looked.{not-live}
 use Rattle.batch.proofs.NewRanks.{is-new, new-at, keys-differ, keys-rise}
 
 -- as many slots as it has, and one slot more

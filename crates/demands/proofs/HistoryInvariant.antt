@@ -31,15 +31,15 @@ use Rattle.writing.proofs.Roles.{passed-long}
 use Rattle.writing.proofs.Became.{Became, dirty-header, clean-header}
 use Rattle.writing.proofs.Fresh.{fresh-bytes, fresh-header, fresh-user}
 use Rattle.writing.proofs.FreshTable.{fresh-passes}
-use Rattle.writing.proofs.Kept.{Kept}
-use Rattle.writing.proofs.KeptTable.{same-passes}
+use Rattle.writing.proofs.Lasting.{Kept}
+use Rattle.writing.proofs.LastingTable.{same-passes}
 use Rattle.writing.proofs.StateLaws.{begin-became, checkpoint-became}
 use Rattle.writing.proofs.UserLaws.{user-became, user-set, same-user, begin-user, checkpoint-user}
 use Rattle.maps.specs.Map.{Map, mapOf, applied}
 use Rattle.maps.proofs.MapFresh.{fresh-map}
-use Rattle.maps.proofs.Accepted.{accepted-facts}
-use Rattle.maps.proofs.Committed.{Committed, shapeAfter, accepted-commit}
-use Rattle.maps.proofs.MapKept.{kept-map}
+use Rattle.soundness.proofs.Accepted.{accepted-facts}
+use Rattle.soundness.proofs.Committed.{Committed, shapeAfter, accepted-commit}
+use Rattle.maps.proofs.MapLasting.{kept-map}
 use Rattle.maps.proofs.MapLaw.{commit-map}
 use Rattle.applying.specs.Apply as A
 use Rattle.commit.specs.Commit.{commitTests, commitOf}

@@ -14,11 +14,11 @@ use Rattle.header.specs.Sizes.{bucketsOffset}
 use Rattle.header.proofs.Fit.{judged-fit, fit-shaped}
 use Rattle.image.specs.Table.{slotAt, tableOf}
 use Rattle.image.specs.Lookup.{probeOf}
-use Rattle.writing.proofs.Kept.{Kept}
-use Rattle.writing.proofs.KeptTable.{moved, kept-shape, kept-table}
+use Rattle.writing.proofs.Lasting.{Kept}
+use Rattle.writing.proofs.LastingTable.{moved, kept-shape, kept-table}
 use Rattle.slots.proofs.Table.Around.{SameSlot, same-slot}
 use Rattle.maps.specs.Map.{mapOf}
-use Rattle.maps.proofs.MapShape.{same-map}
+use Rattle.maps.proofs.SameMap.{same-map}
 
 module _ (s : Shape) (image image′ : List ℕ) (fit : Shaped s image) (kept : Kept image image′) where
   offset : 256 ≤ s .layout .«buckets_offset»

@@ -17,7 +17,7 @@ use Rattle.header.proofs.Fit.{judged-fit, fit-shaped}
 use Rattle.probing.specs.Check.{checks}
 use Rattle.image.specs.Check.{passes}
 use Rattle.image.specs.Table.{slotAt, keyAt, bucketAt, metaOf, keyOf, bucketOf, tableOf}
-use Rattle.writing.proofs.Kept.{Kept, lasting, kept-value}
+use Rattle.writing.proofs.Lasting.{Kept, lasting, kept-value}
 
 -- a shape in another state and generation
 abbrev pub moved : Shape → ℕ → ℕ → Shape

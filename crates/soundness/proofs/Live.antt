@@ -30,7 +30,7 @@ use Rattle.batch.specs.NewKeys.{isNew}
 use Rattle.applying.specs.Apply.{onLive, acted, actedTo, afterLive}
 use Rattle.batch.proofs.Records.{record-length}
 use Rattle.batch.proofs.NewRanks.{is-new}
-use Rattle.maps.proofs.Formed.{Formed, formed-clip, clip-formed, deleted-formed}
+use Rattle.soundness.proofs.Formed.{Formed, formed-clip, clip-formed, deleted-formed}
 
 -- Record i decides and deletes key k.
 pub record Deletes (s : Shape) (batch : List ℕ) (k : List ℕ) (i : ℕ) : Type 0 where

@@ -20,17 +20,18 @@ use Rattle.header.specs.Sizes.{sizesAllowed}
 use Rattle.header.specs.Shaped.{Shaped}
 use Rattle.header.proofs.Firsts.{first-none, fails, neither}
 use Rattle.header.proofs.Fit.{judged-fit, fit-shaped}
-use Rattle.header.proofs.Said.{length-passed}
+use Rattle.header.proofs.PassedTests.{length-passed}
 use Rattle.image.specs.Table.{tableOf}
 use Rattle.image.specs.Check.{passes}
 use Rattle.writing.specs.State.{writingTests, cleanTest, generationTest, userTests}
 use Rattle.writing.proofs.Bytes.{Bytes, value-bound}
+use Rattle.writing.proofs.MoreTests.{change-writing, change-clean, change-generation, not-last}
 use Rattle.writing.proofs.Tests.{Holds, even-passed, state-passed, header-by-state, header-holds}
 use Rattle.batch.specs.Batch.{batchWrong}
 use Rattle.batch.specs.NewKeys.{newCount}
 use Rattle.commit.specs.Commit.{fallsBehind, furtherTests, soundTests, roomTests, commitTests}
-use Rattle.maps.proofs.Formed.{Formed, passes-formed}
-use Rattle.maps.proofs.Grown.{Ready}
+use Rattle.soundness.proofs.Formed.{Formed, passes-formed}
+use Rattle.soundness.proofs.Grown.{Ready}
 
 pub record Accepted (o : Options) (image batch : List ℕ) : Type 0 where
   pub header : headerTest o image ≡ 0
@@ -65,17 +66,9 @@ module _ (o : Options) (image batch : List ℕ) (accepted : firstOf (commitTests
   unfolding commitTests userTests writingTests cleanTest generationTest headerTests test1 test2 test3 test4 test5 test6 test7 test8 test9 test10 test11 test12
   both = first-none (userTests o image) (furtherTests s image batch) tt accepted
 
-  writing : (firstOf (writingTests o image ++ cleanTest image) ≡ 0) × (firstOf (generationTest image) ≡ 0)
-  unfolding userTests writingTests cleanTest headerTests test1 test2 test3 test4 test5 test6 test7 test8 test9 test10 test11 test12
-  writing = first-none (writingTests o image ++ cleanTest image) (generationTest image) tt (both .0)
-
-  state : (firstOf (writingTests o image) ≡ 0) × (firstOf (cleanTest image) ≡ 0)
-  unfolding writingTests headerTests test1 test2 test3 test4 test5 test6 test7 test8 test9 test10 test11 test12
-  state = first-none (writingTests o image) (cleanTest image) tt (writing .0)
-
   roles : (headerTest o image ≡ 0) × (firstOf ((eqb (o .role) 1, busy) ∷ (eqb (o .role) 0, invalid-input) ∷ []) ≡ 0)
   unfolding writingTests headerTest headerTests test1 test2 test3 test4 test5 test6 test7 test8 test9 test10 test11 test12
-  roles = first-none (headerTests o image) ((eqb (o .role) 1, busy) ∷ (eqb (o .role) 0, invalid-input) ∷ []) tt (state .0)
+  roles = first-none (headerTests o image) ((eqb (o .role) 1, busy) ∷ (eqb (o .role) 0, invalid-input) ∷ []) tt (change-writing o image (both .0))
 
   holds : Holds o image
   holds = header-holds o image (roles .0)
@@ -87,11 +80,7 @@ module _ (o : Options) (image batch : List ℕ) (accepted : firstOf (commitTests
 
   not-clean : value image F.state ≡ CLEAN → ⊥
   unfolding cleanTest
-  not-clean = eqb-false _ _ (fails (eqb (value image F.state) CLEAN) 6 (state .1))
-
-  not-last : value image F.generation ≡ last-generation → ⊥
-  unfolding generationTest
-  not-last = eqb-false _ _ (fails (eqb (value image F.generation) last-generation) 0 (writing .1))
+  not-clean = eqb-false _ _ (fails (eqb (value image F.state) CLEAN) 6 (change-clean o image (both .0)))
 
   -- the commit's own tests
   record Further : Type 0 where
@@ -134,7 +123,7 @@ module _ (o : Options) (image batch : List ℕ) (accepted : firstOf (commitTests
   has-more bytes =
       let bound : value image F.generation < 2 ^ 64 = value-bound image bytes (length-passed image (holds .second)) F.generation in
       let even = even-passed o image (holds .fourth) in
-      omega (arith, not-last)
+      omega (arith, not-last image (change-generation o image (both .0)))
 
   pub accepted-facts : Bytes image → Accepted o image batch
   accepted-facts bytes =
