@@ -1,5 +1,4 @@
 // Commit.
-ghost use mathlib.Core.Path.{_≡_};
 ghost use Prim.Native.Nat.{_+_, _^_, _<_};
 ghost use Rattle.header.specs.Fields.{value, generation};
 ghost use Rattle.header.specs.FirstOf.{firstOf};

@@ -61,7 +61,6 @@ outcomes =
       buckets-offset = follows-one (λ κ a x e p. p);
       total-size = follows-one (λ κ a x e p. p);
       passes-check = follows-one (λ κ a x e p. p);
-      check-refused = follows-one (λ κ a x e p. p);
       revision-of = follows-one (λ κ a x e p. p);
       index-of = follows-one (λ κ a x e p. p);
       slot-at = follows-one (λ κ a x e p. p);

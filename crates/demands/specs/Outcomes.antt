@@ -35,7 +35,6 @@ use Rattle.header.proofs.sizes.bucket_count.Reads as bucket-count-reads
 use Rattle.header.proofs.sizes.buckets_offset.Reads as buckets-offset-reads
 use Rattle.header.proofs.sizes.total_size.Reads as total-size-reads
 use Rattle.image.proofs.check.passes_check.Reads as passes-check-reads
-use Rattle.image.proofs.check.refused.Reads as check-refused-reads
 use Rattle.image.proofs.table.revision_of.Reads as revision-of-reads
 use Rattle.image.proofs.table.index_of.Reads as index-of-reads
 use Rattle.image.proofs.table.slot_at.Reads as slot-at-reads
@@ -121,7 +120,6 @@ pub record Outcomes : Type 2 where
   pub total-size : One total-size-reads.Post (λ κ x e. x)
   -- image, check
   pub passes-check : One passes-check-reads.Post (λ κ x e. x)
-  pub check-refused : One check-refused-reads.Post (λ κ x e. x)
   -- image, probe
   pub probe-for : One probe-for-reads.Post (λ κ x e. x)
   -- image, table

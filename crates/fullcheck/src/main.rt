@@ -6,7 +6,6 @@ use header::options::bench;
 use header::state::NO_WRITER_KNOWN;
 use image::check::Checked;
 use image::check::full_check;
-use image::check::refused;
 use libc::STDIN_FILENO;
 use libc::STDOUT_FILENO;
 
@@ -15,7 +14,12 @@ fn checked(image: &[u8], longer: bool) -> Checked
     ensures { λ r. ⌜ r ≡ programOf (now (image .entry)) longer ⌝ }
 {
     if longer {
-        return refused(INVALID_INPUT);
+        return Checked {
+            answer: INVALID_INPUT,
+            live: 0,
+            tombstones: 0,
+            probes: 0,
+        };
     }
     full_check(image, bench(NO_WRITER_KNOWN))
 }

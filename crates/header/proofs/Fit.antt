@@ -5,7 +5,6 @@ use mathlib.Core.Bool.{true}
 use mathlib.Core.Path.{_≡_, refl}
 use mathlib.Core.List.{List}
 use native.Mathlib.Omega.{arith}
-use lib.Dec.{eqb}
 use lib.ListN.{length}
 use Rattle.header.specs.declared.options.Options.{Options}
 use Rattle.header.specs.declared.shape.Shape.{Shape}
@@ -74,10 +73,6 @@ module _ (o : Options) (image : List ℕ) (s : Shape) (fit : judged o image ≡ 
   pub fit-slot-capacity : s .layout .«slot_capacity» ≡ o .«slot_capacity»
   unfolding shapeOf layoutOf
   fit-slot-capacity = rw fit-shape (says .capacity)
-
-  pub fit-ordered : s .layout .ordered ≡ eqb (o .ordered) 1
-  unfolding shapeOf layoutOf
-  fit-ordered = rw (fit-shape, says .flag) refl
 
   pub fit-bucket-count : s .layout .«bucket_count» ≡ bucketCount (o .«slot_capacity»)
   unfolding shapeOf layoutOf

@@ -1,6 +1,6 @@
 -- Laws of the sizes: what they are bounded by. The limits stand here by their names alone.
 -- Assumes nothing.
-use Prim.Native.Nat.{ℕ, _+_, _*_, _%_, _^_, _≤_, _<_}
+use Prim.Native.Nat.{ℕ, _+_, _*_, _^_, _≤_, _<_}
 use mathlib.Core.Bool.{true}
 use mathlib.Core.Path.{_≡_}
 use native.Mathlib.Nat.{mul-le-mul}
@@ -17,10 +17,6 @@ align8-low n = omega arith
 pub align8-high : (n : ℕ) → align8 n ≤ n + 7
 unfolding align8
 align8-high n = omega arith
-
-pub align8-multiple : (n : ℕ) → align8 n % 8 ≡ 0
-unfolding align8
-align8-multiple n = omega arith
 
 -- a slot holds its meta, key, revision and index
 pub slot-size-low : (key index : ℕ) → 16 + key + index ≤ slotSize key index

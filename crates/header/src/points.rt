@@ -110,8 +110,8 @@ pub fn agreement_test(image: &[u8], o: Options) -> u32
     )
 }
 
-// 9. bucket_count below 2 or no power of two; another power of two than the rule's. Only where it is not the rule's is it
-// looked at closer.
+// 9. bucket_count below 2 or no power of two; another power of two than the rule's. Any other count than the rule's
+// is looked at closer.
 pub fn buckets_test(image: &[u8], o: Options) -> u32
     requires { ⌜ (256 ≤ length (now image)) × (sizesAllowed o ≡ true) ⌝ }
     ensures { λ r. ⌜ r ≡ firstOf (test9 o (now (image .entry))) ⌝ }

@@ -1,5 +1,4 @@
 // Scan and match: a call for each of their numbers. Each makes the whole call, and fills the lent list.
-ghost use mathlib.Core.Path.{_≡_};
 ghost use Rattle.host.specs.Listing.{Hands};
 ghost use Rattle.host.specs.Options.{optionsOf};
 ghost use Rattle.listing.specs.Match.{matchOf};

@@ -23,7 +23,8 @@ use Rattle.image.specs.declared.lookup.Lookup.{Lookup}
 use Rattle.image.specs.declared.probe.Probe.{Probe}
 use Rattle.image.specs.declared.probe.Probe.the-variants.{Found, Absent, Broken}
 use Rattle.image.specs.Table.{tableOf, indexOf}
-use Rattle.image.specs.Lookup.{told, probeOf, isFound, isLive, nothing, lookupBy, lookupIn, lookupOf, indexPart}
+use Rattle.image.specs.Lookup.{probeOf, isFound, isLive, nothing, lookupBy, lookupIn, lookupOf, indexPart}
+use Rattle.image.specs.ProbeEnd.{told}
 use Rattle.image.proofs.Judging.{after-fit, after-refused}
 
 -- what the code tells of a probe's end is that end

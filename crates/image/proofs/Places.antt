@@ -11,7 +11,7 @@ use Rattle.header.specs.declared.shape.Layout.{Layout}
 use Rattle.header.specs.Shaped.{LaidOut}
 use Rattle.header.specs.Sizes.{slotSize, bucketsOffset}
 use Rattle.header.proofs.SizeLaws.{align8-low}
-use Rattle.image.specs.Table.{slotAt, keyAt, revisionAt, indexAt, bucketAt, keyOf, indexOf}
+use Rattle.image.specs.Table.{slotAt, keyAt, revisionAt, indexAt, bucketAt, keyOf}
 
 -- in a slot the key follows the meta and ends before the revision, and the index follows that and ends with the slot
 pub key-in-slot : (l : Layout) (n : ℕ) → keyAt l n + l .«key_size» ≤ revisionAt l n
@@ -27,11 +27,6 @@ module _ (l : Layout) (image : List ℕ) (fit : LaidOut l image) where
   pub slot-ends : (n : ℕ) → n < l .«slot_capacity» → slotAt l n + l .«slot_size» ≤ l .«buckets_offset»
   unfolding slotAt bucketsOffset
   slot-ends n h = omega (arith, fit .offset, rw suc-mul at (mul-le-mul-right (l .«slot_size») h))
-
-  -- a slot begins at or before the buckets
-  pub slot-begins : (n : ℕ) → n ≤ l .«slot_capacity» → slotAt l n ≤ l .«buckets_offset»
-  unfolding slotAt bucketsOffset
-  slot-begins n h = omega (arith, fit .offset, mul-le-mul-right (l .«slot_size») h)
 
   pub index-in-slot : (n : ℕ) → indexAt l n + l .«index_size» ≤ slotAt l n + l .«slot_size»
   unfolding indexAt slotSize
@@ -64,7 +59,3 @@ module _ (l : Layout) (image : List ℕ) (fit : LaidOut l image) where
     pub key-length : length (keyOf l image n) ≡ l .«key_size»
     unfolding keyOf
     key-length = length-part image (keyAt l n) (l .«key_size») key-inside
-
-    pub index-length : length (indexOf l image n) ≡ l .«index_size»
-    unfolding indexOf
-    index-length = length-part image (indexAt l n) (l .«index_size») index-inside

@@ -12,15 +12,7 @@ use Rattle.header.specs.declared.shape.Shape.{Shape}
 use Rattle.header.specs.Answer.{done, needs-rebuild, invalid-input, not-present}
 use Rattle.header.specs.HeaderTest.{headerTest, shapeOf, afterTest}
 use Rattle.image.specs.declared.lookup.Lookup.{Lookup}
-use Rattle.image.specs.declared.probe.Probe.{Probe}
-use Rattle.image.specs.declared.probe.Probe.the-variants.{Found, Absent, Broken}
 use Rattle.image.specs.Table.{tableOf, revisionOf, indexOf}
-
--- a probe's end as the code tells it
-abbrev pub told : Probed → Probe
-told (found s n) = Found s n
-told (absent n) = Absent n
-told broken = Broken
 
 -- the probe of a key in an image
 unfoldable pub probeOf : Shape → List ℕ → List ℕ → Probed

@@ -199,7 +199,7 @@ fn order_right(image: &[u8], s: Shape) -> bool
 }
 
 // A refusal: all else returned is 0.
-pub fn refused(answer: u32) -> Checked
+fn refused(answer: u32) -> Checked
     ensures { λ r. ⌜ r ≡ failed answer ⌝ }
 {
     Checked {

@@ -1,5 +1,4 @@
 // Scan: the live slots.
-ghost use mathlib.Core.Path.{_≡_};
 ghost use Rattle.listing.specs.Scan.{Lists, scanOf};
 use crate::listed::Listed;
 use crate::listed::refused;

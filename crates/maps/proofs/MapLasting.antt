@@ -7,7 +7,6 @@ use native.Mathlib.Omega.{arith}
 use Rattle.header.specs.declared.options.Options.{Options}
 use Rattle.header.specs.declared.shape.Shape.{Shape}
 use Rattle.header.specs.Fields as F
-use Rattle.header.specs.Fields.{value}
 use Rattle.header.specs.HeaderTest.{headerTest, shapeOf}
 use Rattle.header.specs.Shaped.{Shaped}
 use Rattle.header.specs.Sizes.{bucketsOffset}
@@ -15,7 +14,7 @@ use Rattle.header.proofs.Fit.{judged-fit, fit-shaped}
 use Rattle.image.specs.Table.{slotAt, tableOf}
 use Rattle.image.specs.Lookup.{probeOf}
 use Rattle.writing.proofs.Lasting.{Kept}
-use Rattle.writing.proofs.LastingTable.{moved, kept-shape, kept-table}
+use Rattle.writing.proofs.LastingTable.{kept-shape, kept-table}
 use Rattle.slots.proofs.Table.Around.{SameSlot, same-slot}
 use Rattle.maps.specs.Map.{mapOf}
 use Rattle.maps.proofs.SameMap.{same-map}

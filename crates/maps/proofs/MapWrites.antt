@@ -14,7 +14,7 @@ use Rattle.header.specs.declared.shape.Layout.{Layout}
 use Rattle.header.specs.declared.shape.Shape.{Shape}
 use Rattle.header.specs.Counters.{withCounters, withSlots}
 use Rattle.header.specs.Shaped.{Shaped}
-use Rattle.image.specs.Table.{slotAt, keyAt, revisionAt, indexAt, metaOf, keyOf, revisionOf, indexOf, tableOf}
+use Rattle.image.specs.Table.{metaOf, keyOf, tableOf}
 use Rattle.slots.specs.Slots.{rewritten, removed, appended}
 use Rattle.slots.proofs.Table.Around.{SameSlot, SameBody}
 use Rattle.slots.proofs.Table.Rewritten.{rewritten-other, rewritten-meta, rewritten-key, rewritten-revision, rewritten-index}

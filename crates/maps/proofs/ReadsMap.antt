@@ -1,14 +1,12 @@
 -- Lookup reads the map: of a sound table it answers 0 with a key's revision and index, and 9 for a key that has none.
 -- Assumes nothing.
 use Prim.Native.Nat.{ℕ}
-use mathlib.Core.Path.{_≡_, refl, sym, ap, _∙_}
-use mathlib.Core.Bool.{cond}
+use mathlib.Core.Path.{_≡_, sym, ap, _∙_}
 use mathlib.Core.List.{List, []}
 use mathlib.Core.Option.{some, none}
-use lib.Dec.{eqb}
 use lib.IntN.{pos}
 use lib.ListN.{length}
-use Rattle.probing.specs.Probe.{Probed, found, absent, broken}
+use Rattle.probing.specs.Probe.{Probed}
 use Rattle.probing.specs.Sound.{Sound}
 use Rattle.header.specs.declared.options.Options.{Options}
 use Rattle.header.specs.Answer.{done, not-present}
@@ -17,7 +15,7 @@ use Rattle.image.specs.declared.lookup.Lookup.{Lookup}
 use Rattle.image.specs.Table.{tableOf}
 use Rattle.image.specs.Lookup.{probeOf, lookupBy, lookupOf, indexBy, indexPart}
 use Rattle.image.proofs.Looked.{looked-by}
-use Rattle.maps.specs.Map.{Entry, entryAt, mapOf}
+use Rattle.maps.specs.Map.{Entry, mapOf}
 use Rattle.maps.proofs.MapSlots.{has-found, lacks-absent, some-iff, none-iff}
 
 module _ (o : Options) (image key : List ℕ) (header : headerTest o image ≡ 0) (size : length key ≡ shapeOf image .layout .«key_size») where
@@ -30,22 +28,6 @@ module _ (o : Options) (image key : List ℕ) (header : headerTest o image ≡ 0
       → indexPart o image key ≡ indexBy (shapeOf image) image (lookupBy (shapeOf image) image p)
   unfolding indexPart
   indexed p e = ap (indexBy (shapeOf image) image) (looked p e)
-
-  -- The map is what lookup tells.
-  pub map-looked :
-      mapOf (shapeOf image) image key
-      ≡ cond (eqb (lookupOf o image key .answer) done)
-      (some (record { revision = lookupOf o image key .revision; index = indexPart o image key })) none
-  unfolding mapOf indexPart
-  map-looked = go (probeOf (shapeOf image) image key) refl
-    where
-      go : (p : Probed) → probeOf (shapeOf image) image key ≡ p
-          → entryAt (shapeOf image .layout) image p
-          ≡ cond (eqb (lookupOf o image key .answer) done)
-          (some (record { revision = lookupOf o image key .revision; index = indexBy (shapeOf image) image (lookupOf o image key) })) none
-      go (found n count) e = rw (looked _ e)
-      go (absent count) e = rw (looked _ e)
-      go broken e = rw (looked _ e)
 
   module _ (sound : Sound (tableOf (shapeOf image) image)) where
     -- a key that has an entry: 0, with its revision and index

@@ -1,7 +1,7 @@
 -- What a commit does to a table. Rewriting a slot's revision and index changes nothing here.
 -- Assumes nothing.
 use Prim.Native.Nat.{ℕ, zero, suc, _+_, _-_, _%_}
-use mathlib.Core.Bool.{Bool, true, false, cond}
+use mathlib.Core.Bool.{cond}
 use mathlib.Core.List.{List}
 use lib.Dec.{eqb}
 use Rattle.probing.specs.Table.{Bucket, EMPTY, TOMBSTONE, FULL, Table, live}

@@ -1,7 +1,7 @@
 -- What the full check asks of a table, sentence by sentence, and the sum that it returns.
 -- Assumes nothing.
 use Prim.Native.Nat.{ℕ, _+_, _-_}
-use mathlib.Core.Bool.{Bool, true, false, cond, not, _&&_, _||_}
+use mathlib.Core.Bool.{Bool, true, cond, not, _&&_, _||_}
 use lib.Dec.{eqb, ltb}
 use Rattle.numbers.specs.Bytes.{below}
 use Rattle.probing.specs.Counting.{sumTo, allTo}

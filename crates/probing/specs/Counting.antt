@@ -1,7 +1,7 @@
 -- Sums, counts and tests over the numbers below a bound.
 -- Assumes nothing.
 use Prim.Native.Nat.{ℕ, zero, suc, _+_}
-use mathlib.Core.Bool.{Bool, true, false, cond, _&&_}
+use mathlib.Core.Bool.{Bool, true, cond, _&&_}
 
 -- f 0 + … + f (n − 1)
 unfoldable pub sumTo : ℕ → (ℕ → ℕ) → ℕ

@@ -3,7 +3,7 @@
 use Prim.Native.Nat.{ℕ, _+_, _-_, _^_, _≤_, _<_}
 use mathlib.Core.Bool.{Bool, true, false, not, _&&_, _||_}
 use mathlib.Core.Path.{_≡_, sym, _∙_}
-use mathlib.Core.List.{List, [], _∷_, _++_}
+use mathlib.Core.List.{List, [], _∷_}
 use native.Mathlib.Omega.{arith}
 use lib.Dec.{eqb, ltb}
 use borrow.Author.Tests.{eqb-false, ltb-false, not-false}
@@ -14,7 +14,7 @@ use Rattle.header.specs.Answer.{needs-rebuild, invalidated, busy, full, out-of-
 use Rattle.header.specs.Fields as F
 use Rattle.header.specs.Fields.{value}
 use Rattle.header.specs.FirstOf.{firstOf}
-use Rattle.header.specs.State.{CLEAN, INVALIDATED, DIRTY, last-generation}
+use Rattle.header.specs.State.{CLEAN, INVALIDATED, DIRTY}
 use Rattle.header.specs.HeaderTest.{test1, test2, test3, test4, test5, test6, test7, test8, test9, test10, test11, test12, headerTests, headerTest, shapeOf}
 use Rattle.header.specs.Sizes.{sizesAllowed}
 use Rattle.header.specs.Shaped.{Shaped}

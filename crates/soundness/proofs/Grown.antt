@@ -20,7 +20,7 @@ use Rattle.probing.proofs.Keys.{not-both, not-true-false, both-and}
 use Rattle.probing.proofs.Reading.{absent-iff}
 use Rattle.header.specs.declared.shape.Shape.{Shape}
 use Rattle.header.specs.Shaped.{Shaped}
-use Rattle.image.specs.Table.{slotAt, keyAt, revisionAt, indexAt, metaOf, keyOf, revisionOf, indexOf, tableOf}
+use Rattle.image.specs.Table.{metaOf, keyOf, tableOf}
 use Rattle.image.specs.Lookup.{probeOf, isLive}
 use Rattle.slots.specs.Slots.{appended}
 use Rattle.slots.proofs.Table.Around.{Around, around-then, around-shaped, SameSlot, same-slot-self, same-slot-then}

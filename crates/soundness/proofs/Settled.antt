@@ -20,7 +20,7 @@ use Rattle.header.specs.Fields.{value}
 use Rattle.header.specs.HeaderTest.{shapeOf}
 use Rattle.header.specs.Shaped.{Shaped}
 use Rattle.header.specs.Sizes.{bucketsOffset}
-use Rattle.image.specs.Table.{slotAt, keyAt, revisionAt, indexAt, bucketAt, metaOf, keyOf, revisionOf, indexOf, bucketOf, tableOf}
+use Rattle.image.specs.Table.{tableOf}
 use Rattle.image.specs.Check.{passes}
 use Rattle.slots.specs.Slots.{rebuilt}
 use Rattle.slots.proofs.Table.Around.{Around, around-self, around-bytes, around-shape, around-shaped, SameSlot, same-slot-self, same-slot-then}

@@ -1,7 +1,7 @@
 -- What an image has become that a writing call changed: what lasts, its state and generation, and what the header test says.
 -- Assumes nothing.
 use Prim.Native.Nat.{ℕ, _%_, _≤_}
-use mathlib.Core.Path.{_≡_, refl, ap, ap₂, _∙_}
+use mathlib.Core.Path.{_≡_, refl, ap, _∙_}
 use mathlib.Core.List.{List, [], _∷_}
 use native.Mathlib.Omega.{arith}
 use borrow.Author.Tests.{ne-eqb}
@@ -14,15 +14,13 @@ use Rattle.header.specs.Fields as F
 use Rattle.header.specs.Fields.{fieldOf, value}
 use Rattle.header.specs.FirstOf.{firstOf}
 use Rattle.header.specs.State.{CLEAN, INVALIDATED, DIRTY, withRole}
-use Rattle.header.specs.HeaderTest.{headerTest, shapeOf}
-use Rattle.image.specs.Table.{tableOf}
+use Rattle.header.specs.HeaderTest.{headerTest}
 use Rattle.writing.specs.Write.{withField, withFields, sealed}
 use Rattle.writing.proofs.Bytes.{Bytes, put-bytes, bytes-of-bytes}
 use Rattle.writing.proofs.FieldList.{Fitting, after, fields-length, fields-value}
 use Rattle.writing.proofs.Seal.{seal-other, seal-crc}
 use Rattle.writing.proofs.Tests.{even-passed, crc-passed, state-passed, header-holds, stateTests}
 use Rattle.writing.proofs.Lasting.{Kept, passing, kept-written, header-kept}
-use Rattle.writing.proofs.LastingTable.{moved, kept-shape, same-table}
 
 pub record Became (o : Options) (image image′ : List ℕ) (state generation : ℕ) : Type 0 where
   pub kept : Kept image image′
@@ -96,13 +94,3 @@ module _ {o : Options} {image image′ : List ℕ} {generation : ℕ} where
   pub invalidated-header : Became o image image′ INVALIDATED generation → (role : ℕ) → role ≤ 2 → headerTest (withRole o role) image′ ≡ 3
   unfolding firstOf
   invalidated-header b role low = b .header role low
-
--- its shape and its table
-pub became-shape : {o : Options} {image image′ : List ℕ} {state generation : ℕ} → Became o image image′ state generation
-    → shapeOf image′ ≡ moved (shapeOf image) state generation
-became-shape {image = image} {image′ = image′} b =
-    kept-shape image image′ (b .kept) ∙ ap₂ (moved (shapeOf image)) (b .in-state) (b .in-generation)
-
-pub became-table : {o : Options} {image image′ : List ℕ} {state generation : ℕ} → headerTest o image ≡ 0 → Became o image image′ state generation
-    → tableOf (shapeOf image′) image′ ≡ tableOf (shapeOf image) image
-became-table {o} {image} {image′} z b = same-table o image image′ z (b .kept)

@@ -1,13 +1,11 @@
 -- The shape and the table of a fresh image: no slot is taken, every bucket is EMPTY, and the full check passes.
 -- Assumes nothing.
-use Prim.Native.Nat.{ℕ, suc, _+_, _*_, _≤_, _<_}
+use Prim.Native.Nat.{ℕ, _+_, _*_, _≤_, _<_}
 use mathlib.Core.Bool.{Bool, true, false, not, _||_}
-use mathlib.Core.Path.{_≡_, refl, ap, _∙_}
+use mathlib.Core.Path.{_≡_, refl}
 use mathlib.Core.List.{List}
-use native.Mathlib.Nat.{suc-mul, mul-le-mul-right}
 use native.Mathlib.Omega.{arith}
 use lib.Dec.{T, eqb}
-use Rattle.numbers.specs.Bytes.{word}
 use Rattle.probing.specs.Counting.{sumTo, countTo, allTo}
 use Rattle.probing.specs.Table.{Table, EMPTY, liveCount, fullCount, tombstoneCount, isFull, isTombstone}
 use Rattle.probing.specs.Check.{bucketRight, bucketsRight, metasRight, eachFound, countsEqual, neverFall, checks}
@@ -19,10 +17,9 @@ use Rattle.header.specs.Fields.{value}
 use Rattle.header.specs.FirstOf.{firstOf}
 use Rattle.header.specs.State.{CLEAN}
 use Rattle.header.specs.HeaderTest.{layoutOf, shapeOf}
-use Rattle.header.specs.Sizes.{slotSize, bucketCount, bucketsOffset, totalSize}
-use Rattle.header.proofs.SizeLaws.{slot-size-low}
+use Rattle.header.specs.Sizes.{slotSize, bucketCount, bucketsOffset}
 use Rattle.image.specs.Check.{passes}
-use Rattle.image.specs.Table.{slotAt, bucketAt, metaOf, bucketFrom, bucketOf, tableOf}
+use Rattle.image.specs.Table.{bucketAt, bucketFrom, bucketOf, tableOf}
 use Rattle.writing.specs.Create.{createTests, freshFields, createOf}
 use Rattle.writing.proofs.OneField.{Fits, apart}
 use Rattle.writing.proofs.FieldList.{after}
@@ -55,14 +52,6 @@ or-true : (ordered : Bool) → not ordered || true ≡ true
 or-true true = refl
 or-true false = refl
 
--- a slot below the capacity ends before the buckets begin
-slot-inside : (o : Options) (n : ℕ) → n < o .«slot_capacity» → 256 + n * slotSize (o .«key_size») (o .«index_size») + 8 ≤ totalSize o
-unfolding bucketsOffset
-slot-inside o n h =
-    let slot : ℕ = slotSize (o .«key_size») (o .«index_size») in
-    let most : suc n * slot ≤ o .«slot_capacity» * slot = mul-le-mul-right slot h in
-    omega (arith, rw suc-mul at most, extent o, slot-size-low (o .«key_size») (o .«index_size»))
-
 buckets-low : (o : Options) → 256 ≤ bucketsOffset (o .«slot_capacity») (slotSize (o .«key_size») (o .«index_size»))
 unfolding bucketsOffset
 buckets-low o = omega arith
@@ -84,11 +73,6 @@ module _ (o : Options) (buffer : List ℕ) (z : firstOf (createTests o buffer) �
   unfolding shapeOf layoutOf freshFields
   fresh-shape =
       rw (v F.key-size tt, v F.index-size tt, v F.slot-size tt, v F.slot-capacity tt, v F.slot-highwater tt, v F.live-count tt, v F.bucket-count tt, v F.bucket-tombstones tt, v F.buckets-offset tt, v F.flags tt, v F.state tt, v F.generation tt) refl
-
-  pub fresh-meta : (n : ℕ) → n < o .«slot_capacity» → metaOf (freshShape o .layout) (createOf o buffer .image) n ≡ 0
-  unfolding metaOf slotAt
-  fresh-meta n h =
-      ap word (fresh-behind o buffer z version (256 + n * slotSize (o .«key_size») (o .«index_size»)) 8 (omega arith) (slot-inside o n h)) ∙ word-zeros 8
 
   pub fresh-bucket : (b : ℕ) → b < bucketCount (o .«slot_capacity») → bucketOf (freshShape o .layout) (createOf o buffer .image) b ≡ EMPTY
   unfolding bucketOf bucketAt bucketFrom

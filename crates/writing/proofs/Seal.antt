@@ -23,13 +23,6 @@ unfolding part
 crc-same s t hs ht a b c = sym (header-states s hs refl refl refl refl refl) ∙ rw (a, b, c) (header-states t ht refl refl refl refl refl)
 
 module _ (image : List ℕ) (long : 256 ≤ length image) (x : ℕ) where
-  pub crc-of-generation : headerCrc (withField image F.generation x) ≡ headerCrc image
-  crc-of-generation =
-      crc-same (withField image F.generation x) image (rw (field-length image long F.generation x) long) long
-      (field-before image long F.generation x 0 0x40 (lit≤ tt))
-      (field-after image long F.generation x 0x48 0x28 (lit≤ tt))
-      (field-after image long F.generation x 0x74 0x8C (lit≤ tt))
-
   pub crc-of-crc : headerCrc (withField image F.header-crc32c x) ≡ headerCrc image
   crc-of-crc =
       crc-same (withField image F.header-crc32c x) image (rw (field-length image long F.header-crc32c x) long) long

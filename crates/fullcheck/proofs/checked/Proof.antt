@@ -1,7 +1,7 @@
 -- `fullcheck::checked` meets its contract.
 -- Assumes nothing.
 use denote.Ref.{now}
-use mathlib.Core.Path.{ap, _∙_}
+use mathlib.Core.Path.{refl, ap, _∙_}
 use Rattle.header.specs.declared.options.Options.{Options}
 use Rattle.image.specs.Check.{checkOf}
 use Rattle.fullcheck.specs.Program.{programOf}
@@ -9,12 +9,9 @@ use borrow.Author.Needs.{needs}
 use Rattle.fullcheck.proofs.checked.Statement.{statement}
 use Rattle.fullcheck.proofs.checked.Tie as tie
 
-refused-requires : tie.Need-refused-requires
-refused-requires c κs = search needs
-
 returns : tie.Need-returns
 unfolding programOf
-returns c = rw (c .before .if1 .taken) (c .refused .ensures)
+returns c = rw (c .if1 .taken) refl
 
 bench-requires : tie.Need-bench-requires
 bench-requires c κs = search needs
@@ -29,4 +26,4 @@ returns-2 c =
     rw (c .before .before .if1 .left) (c .full-check .ensures ∙ ap (λ (o : Options). checkOf o image) (c .before .bench .ensures))
 
 pub checked-spec : {M : Type 1} → statement M
-checked-spec = tie.close (tie.spec refused-requires returns bench-requires full-check-requires returns-2)
+checked-spec = tie.close (tie.spec returns bench-requires full-check-requires returns-2)

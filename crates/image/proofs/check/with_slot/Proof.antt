@@ -7,7 +7,8 @@ use mathlib.Core.List.{List}
 use native.Mathlib.Omega.{arith}
 use Rattle.probing.specs.Probe.{probe}
 use Rattle.image.specs.Table.{metaOf, keyOf, tableOf}
-use Rattle.image.specs.Lookup.{told, probeOf}
+use Rattle.image.specs.Lookup.{probeOf}
+use Rattle.image.specs.ProbeEnd.{told}
 use Rattle.image.proofs.Tally.{more-deleted, more-unknown, more-found, more-absent, more-broken, live-small, probes-small, found-small, absent-small}
 use Rattle.image.proofs.check.with_slot.Statement.{statement}
 use Rattle.image.proofs.check.with_slot.Tie as tie

@@ -7,7 +7,8 @@ use mathlib.Core.Path.{_≡_, sym, ap, ap₂, _∙_}
 use Prim.Native.Nat.{ℕ, _+_, _-_, _%_, _≤_, _<_}
 use Rattle.probing.specs.Probe.{next, probeFrom, probe}
 use Rattle.image.specs.Table.{tableOf}
-use Rattle.image.specs.Lookup.{probeOf, told}
+use Rattle.image.specs.Lookup.{probeOf}
+use Rattle.image.specs.ProbeEnd.{told}
 use Rattle.image.specs.declared.probe.Step.{Step}
 use Rattle.image.specs.Step.{ends}
 use Rattle.image.proofs.BucketSays.{probe-turn, probe-out}
