@@ -2,7 +2,6 @@ pub mod Demand1
 pub mod Demand2
 pub mod Demand3
 pub mod Examples
-pub mod Pins
 pub mod PastTotal
 pub mod Owing
 pub mod Calls
@@ -19,5 +18,3 @@ pub mod Belongs
 pub mod Ascending
 pub mod Reading
 pub mod Numbered
-pub mod StoriesComputed
-pub mod Story

@@ -6,11 +6,6 @@ pub mod History
 pub mod Listings
 pub mod Shows
 pub mod PastTotal
-pub mod Literal
-pub mod Story
-pub mod OrderedStory
-pub mod Pins
-pub mod Refusals
 pub mod Calls
 pub mod Exports
 pub mod Outcomes

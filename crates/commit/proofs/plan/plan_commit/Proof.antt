@@ -1,6 +1,8 @@
 -- `commit::plan::plan_commit` meets its contract.
 -- Assumes nothing.
+use mathlib.Core.Path.{_≡_}
 use borrow.Author.Needs.{needs}
+use Rattle.commit.specs.Plan.{noPlan}
 use Rattle.commit.proofs.TestGroups.{sound-stops, room-decides, sound-small}
 use Rattle.commit.proofs.Planning.{refused-plan}
 use Rattle.commit.proofs.plan.plan_commit.Statement.{statement}
@@ -15,7 +17,8 @@ no-plan-requires c κs = search needs
 returns : tie.Need-returns
 returns c =
     let a = c .before .before .before .before .before .args in
-    refused-plan (c .no-plan .ensures)
+    let none : c .no-plan .result ≡ noPlan (c .before .before .sound-test .result) = c .no-plan .ensures in
+    refused-plan none
     (sound-stops (a .s) (a .image .now) (a .batch .now) (c .before .before .sound-test .ensures) (c .before .if1 .taken)) (c .before .if1 .taken)
 
 flag-new-keys-requires : tie.Need-flag-new-keys-requires

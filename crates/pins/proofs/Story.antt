@@ -21,16 +21,16 @@ use Rattle.writing.proofs.Bytes.{append-bytes, bytes-of-bytes}
 use Rattle.batch.specs.Batch.{recordCount, recordAt, metaIn, keyIn}
 use Rattle.commit.specs.Commit.{commitOf}
 use Rattle.maps.specs.Map.{Map, entryIn, actsOn, appliedTo, applied}
 use Rattle.demands.specs.Demand2.{ReadsBack}
 use Rattle.demands.specs.History.{writer, emptyMap, History, created, begun, checkpointed, marked, committed, commit-refused}
-use Rattle.demands.specs.Literal.{words, slot, tombstone}
+use Rattle.pins.specs.Literal.{words, slot, tombstone}
 use Rattle.demands.specs.Owes.{written}
-use Rattle.demands.specs.Story as S
-use Rattle.demands.specs.Story.{Story}
-use Rattle.demands.specs.OrderedStory as O
-use Rattle.demands.specs.OrderedStory.{OrderedStory}
+use Rattle.pins.specs.Story as S
+use Rattle.pins.specs.Story.{Story}
+use Rattle.pins.specs.OrderedStory as O
+use Rattle.pins.specs.OrderedStory.{OrderedStory}
 use Rattle.demands.proofs.Demand2.{demand2}
-use Rattle.demands.proofs.StoriesComputed.{steps, ordered-steps}
+use Rattle.pins.proofs.StoriesComputed.{steps, ordered-steps}
 
 words-bytes : (width : ℕ) (xs : List ℕ) → Bytes (words width xs)
 words-bytes width [] = λ i. lit< tt

@@ -16,9 +16,9 @@ use Rattle.image.specs.Lookup.{lookupIn}
 use Rattle.writing.specs.State.{cleanTest, generationTest}
 use Rattle.batch.specs.Batch.{batchWrong}
 use Rattle.host.specs.Options.{optionsOf}
-use Rattle.demands.specs.Literal.{words, zeros, slot, tombstone}
-use Rattle.demands.specs.Story.{options, reader, image5, image6}
-use Rattle.demands.specs.OrderedStory as O
+use Rattle.pins.specs.Literal.{words, zeros, slot, tombstone}
+use Rattle.pins.specs.Story.{options, reader, image5, image6}
+use Rattle.pins.specs.OrderedStory as O
 
 abbrev pub s : Shape
 s = shapeOf image5

@@ -17,7 +17,7 @@ use Rattle.header.specs.Sizes.{sizesAllowed, align8, slotSize, powerFrom, bucke
 use Rattle.header.proofs.SizeLaws.{bucket-count-power, bucket-count-low, bucket-count-high}
 use Rattle.listing.specs.Match.{bitAt, agrees}
 use Rattle.host.specs.Places.{placeIn, keyPlace, indexPlace}
-use Rattle.demands.specs.Pins.{Pins}
+use Rattle.pins.specs.Pins.{Pins}
 
 -- a power of two below twice another is at most that one
 at-most : (j k : ℕ) → 2 ^ j < 2 * 2 ^ k → 2 ^ j ≤ 2 ^ k

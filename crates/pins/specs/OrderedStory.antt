@@ -17,10 +17,10 @@ use Rattle.writing.specs.Create.{createOf}
 use Rattle.writing.specs.State.{beginOf, checkpointOf}
 use Rattle.commit.specs.Commit.{commitOf}
 use Rattle.maps.specs.Map.{Map, applied}
 use Rattle.demands.specs.History.{emptyMap, History}
-use Rattle.demands.specs.Literal.{Layout, words, zeros, header, no-user, slot, bucket, tombstone}
+use Rattle.pins.specs.Literal.{Layout, words, zeros, header, no-user, slot, bucket, tombstone}
 use Rattle.demands.specs.Owes.{written}
-use Rattle.demands.specs.Story.{Finds, Lacks}
+use Rattle.pins.specs.Story.{Finds, Lacks}
 
 abbrev pub options : Options
 options =

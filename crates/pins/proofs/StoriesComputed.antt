@@ -26,9 +26,9 @@ use Rattle.batch.specs.Batch.{recordCount, recordAt, metaIn, keyIn, keyPadding,
 use Rattle.batch.specs.NewKeys.{isNew, newCount, rank, firstTo, newAt}
 use Rattle.applying.specs.Apply.{acted, actedTo, afterLive, afterNew, tidied, recounted, settled, committed}
 use Rattle.commit.specs.Commit.{fallsBehind, soundTests, roomTests, furtherTests, commitTests, commitOf}
-use Rattle.demands.specs.Story.{Steps}
-use Rattle.demands.specs.OrderedStory.{OrderedSteps}
-use Rattle.demands.specs.Refusals.{HeaderRefusals, FurtherRefusals, CheckRefusals}
+use Rattle.pins.specs.Story.{Steps}
+use Rattle.pins.specs.OrderedStory.{OrderedSteps}
+use Rattle.pins.specs.Refusals.{HeaderRefusals, FurtherRefusals, CheckRefusals}
 
 -- all that is computed with
 computed : Unit {0}

@@ -1,0 +1,3 @@
+pub mod StoriesComputed
+pub mod Story
+pub mod Pins

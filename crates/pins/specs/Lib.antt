@@ -1,0 +1,5 @@
+pub mod Literal
+pub mod Story
+pub mod OrderedStory
+pub mod Pins
+pub mod Refusals
