@@ -49,8 +49,8 @@ def main():
     reached = rested_on()
     statements = {file for file in reached if file.startswith("demands/")}
     definitions = reached - statements
-    says = "The statements are {:,} lines in {} files of [crates/demands/specs](crates/demands/specs), and rest on {:,} lines of definitions in {} files.".format(
-        lines(statements), len(statements), lines(definitions), len(definitions))
+    says = ("The statements are {:,} lines in {} files of [crates/demands/specs](crates/demands/specs), and rest on {:,} lines of "
+            "definitions in {} files.").format(lines(statements), len(statements), lines(definitions), len(definitions))
     wrong = []
     if says not in " ".join(text("README.md").split()):
         wrong.append("README.md does not say: " + says)

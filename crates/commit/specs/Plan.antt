@@ -18,5 +18,5 @@ pub record Planned (tests : List (Bool × ℕ)) (s : Shape) (image batch : List 
   pub ready : p .answer ≡ done → Prepared s image batch (p .marks) (p .count)
 
 -- a refusal: all else is 0
-abbrev pub noPlan : ℕ → Plan
-noPlan answer = record { answer = answer; count = 0; marks = replicate most-records 0 }
+abbrev pub refused : ℕ → Plan
+refused answer = record { answer = answer; count = 0; marks = replicate most-records 0 }

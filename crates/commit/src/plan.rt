@@ -6,7 +6,7 @@ ghost use Rattle.image.specs.Lookup.{isLive};
 ghost use Rattle.batch.specs.Batch.{recordCount, most-records};
 ghost use Rattle.batch.specs.Marks.{Flagged};
 ghost use Rattle.commit.specs.Commit.{roomTests, furtherTests};
-ghost use Rattle.commit.specs.Plan.{Planned, noPlan};
+ghost use Rattle.commit.specs.Plan.{Planned, refused};
 use crate::further::room_test;
 use crate::further::sound_test;
 use crate::new_keys::flag_new_keys;
@@ -24,9 +24,9 @@ pub struct Plan {
     pub marks: [u8; MOST_RECORDS],
 }
 
-// A refusal: there is nothing to do.
-fn no_plan(answer: u32) -> Plan
-    ensures { λ r. ⌜ r ≡ noPlan answer ⌝ }
+// A refusal: all else is zero.
+fn refused(answer: u32) -> Plan
+    ensures { λ r. ⌜ r ≡ refused answer ⌝ }
 {
     Plan {
         answer,
@@ -44,7 +44,7 @@ fn plan_new_keys(image: &[u8], s: Shape, batch: &[u8], flags: &[u8]) -> Plan
 {
     let room = room_test(image, s, batch, flags);
     if room != DONE {
-        return no_plan(room);
+        return refused(room);
     }
     Plan {
         answer: DONE,
@@ -60,7 +60,7 @@ pub fn plan_commit(image: &[u8], s: Shape, batch: &[u8]) -> Plan
 {
     let sound = sound_test(image, s, batch);
     if sound != DONE {
-        return no_plan(sound);
+        return refused(sound);
     }
     let flags = flag_new_keys(image, s, batch);
     plan_new_keys(image, s, batch, &flags)

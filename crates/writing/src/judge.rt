@@ -32,7 +32,7 @@ pub fn judge_writer(image: &[u8], o: Options) -> Judged
     }
 }
 
-// Those that commit and set user fields make: after them the state, and then the generation.
+// The tests that commit and set user fields share: those of every writing call, then the state, then the generation.
 pub fn judge_change(image: &[u8], o: Options) -> Judged
     ensures { λ r. ⌜ r ≡ verdict (firstOf (userTests o (now (image .entry)))) (shapeOf (now (image .entry))) ⌝ }
 {

@@ -2,7 +2,7 @@
 -- Assumes nothing.
 use mathlib.Core.Path.{_≡_}
 use borrow.Author.Needs.{needs}
-use Rattle.commit.specs.Plan.{noPlan}
+use Rattle.commit.specs.Plan.{refused}
 use Rattle.commit.proofs.TestGroups.{sound-stops, room-decides, sound-small}
 use Rattle.commit.proofs.Planning.{refused-plan}
 use Rattle.commit.proofs.plan.plan_commit.Statement.{statement}
@@ -11,13 +11,13 @@ use Rattle.commit.proofs.plan.plan_commit.Tie as tie
 sound-test-requires : tie.Need-sound-test-requires
 sound-test-requires c κs = search needs
 
-no-plan-requires : tie.Need-no-plan-requires
-no-plan-requires c κs = search needs
+refused-requires : tie.Need-refused-requires
+refused-requires c κs = search needs
 
 returns : tie.Need-returns
 returns c =
     let a = c .before .before .before .before .before .args in
-    let none : c .no-plan .result ≡ noPlan (c .before .before .sound-test .result) = c .no-plan .ensures in
+    let none : c .refused .result ≡ refused (c .before .before .sound-test .result) = c .refused .ensures in
     refused-plan none
     (sound-stops (a .s) (a .image .now) (a .batch .now) (c .before .before .sound-test .ensures) (c .before .if1 .taken)) (c .before .if1 .taken)
 
@@ -50,7 +50,7 @@ plan-commit-spec =
     tie.close
     (tie.spec
     sound-test-requires
-    no-plan-requires
+    refused-requires
     returns
     flag-new-keys-requires
     slice-aggregate-plan-new-keys

@@ -15,11 +15,11 @@ use Rattle.commit.proofs.plan.plan_new_keys.Tie as tie
 room-test-requires : tie.Need-room-test-requires
 room-test-requires c κs = search needs
 
-no-plan-requires : tie.Need-no-plan-requires
-no-plan-requires c κs = search needs
+refused-requires : tie.Need-refused-requires
+refused-requires c κs = search needs
 
 returns : tie.Need-returns
-returns c = refused-plan (c .no-plan .ensures) (c .before .before .room-test .ensures) (c .before .if1 .taken)
+returns c = refused-plan (c .refused .ensures) (c .before .before .room-test .ensures) (c .before .if1 .taken)
 
 record-count-requires : tie.Need-record-count-requires
 record-count-requires c κs = search needs
@@ -57,7 +57,7 @@ plan-new-keys-spec =
     tie.close
     (tie.spec
     room-test-requires
-    no-plan-requires
+    refused-requires
     returns
     record-count-requires
     count-flags-requires
