@@ -19,6 +19,15 @@
 #include <stddef.h>
 #include <stdint.h>
 
+/* The version. With another major number a host is to be built anew, or changed first: the shared object's name has it.
+ * SLC1_VERSION is "major.minor.patch". */
+#define SLC1_VERSION_MAJOR 1
+#define SLC1_VERSION_MINOR 0
+#define SLC1_VERSION_PATCH 0
+#define SLC1_VERSION SLC1_DOTTED(SLC1_VERSION_MAJOR, SLC1_VERSION_MINOR, SLC1_VERSION_PATCH)
+#define SLC1_DOTTED(major, minor, patch) SLC1_DOTTED_AS_GIVEN(major, minor, patch)
+#define SLC1_DOTTED_AS_GIVEN(major, minor, patch) #major "." #minor "." #patch
+
 #ifdef __cplusplus
 extern "C" {
 #endif
