@@ -1,5 +1,5 @@
-"""README as it is read: the demo's output, the first lookup in C, and the picture, each made again and compared; and what the
-checks before it printed of trust."""
+"""README as it is read: the demo's output, what is shown after it, and the picture, each made again and compared; what the checks
+before it printed of trust; and the toolchain that it names."""
 
 import os
 import re
@@ -46,6 +46,28 @@ def axioms(crate):
     return "".join(line + "\n" for line in said.splitlines() if line.startswith("axioms "))
 
 
+def demo():
+    """What the demo prints. It leaves a file of one's own alone."""
+    own = os.path.join(ROOT, "target", "demo", "own")
+    os.makedirs(os.path.dirname(own), exist_ok=True)
+    with open(own, "w"):
+        pass
+    printed = run("examples/demo")
+    if not os.path.exists(own):
+        sys.exit("examples/demo: a file in target/demo that it did not make is gone")
+    os.remove(own)
+    return printed
+
+
+def kit():
+    """The kit that README says the library was proved with. That stays true under another kit, so this only tells of it."""
+    here = run("rt", "version").strip()
+    named = re.search(r"was\s+proved\s+with\s+`(rattle-kit-\S+ logic \w+)`", TEXT)
+    if not named:
+        sys.exit(f"README: it names no kit that this library was proved with, as 'rt version' does: {here}")
+    return f"README's kit is {named[1]}" + ("" if here == named[1] else f"; the one here is {here}")
+
+
 def save_first(folder):
     with open(os.path.join(folder, "first.c"), "w") as file:
         file.write(PROGRAM)
@@ -58,6 +80,7 @@ def on_first(path, commands):
 
 TEXT = read("README.md")
 DEMO, FIRST = block("console", "$ bench "), block("console", "$ ./first ")
+AFTER_DEMO = [text for text in blocks("console") if text != DEMO]
 PROGRAM = block("c", "int main(")
 TRUSTED, ASSUMED = blocks("text")
 
@@ -68,15 +91,17 @@ def main():
     same("what the programs assume", "".join(map(axioms, programs)), ASSUMED)
     same("what the libraries assume", "".join(map(axioms, libraries)), "")
 
-    same("the demo's output", run("examples/demo"), DEMO)
+    same("the demo's output", demo(), DEMO)
     same("the picture of the demo's cache", read("target", "demo", "cache.svg"), read("docs", "cache.svg"))
 
     os.makedirs(WORK, exist_ok=True)
     save_first(WORK)
-    commands = re.findall(r"^\$ (.*)$", FIRST, re.M)
-    made = "".join(f"$ {command}\n" + run("sh", "-c", on_first(WORK + "/first", command)) for command in commands)
-    same("the first lookup", made, FIRST)
-    print(f"README's demo, {len(commands)} commands of its first lookup, its picture and its words on trust are as shown")
+    for shown in AFTER_DEMO:
+        commands = re.findall(r"^\$ (.*)$", shown, re.M)
+        made = "".join(f"$ {command}\n" + run("sh", "-c", on_first(WORK + "/first", command)) for command in commands)
+        same(f"'{commands[0]}'", made, shown)
+    print(f"README's demo, {len(AFTER_DEMO)} blocks of commands after it, its picture and its words on trust are as shown")
+    print(kit())
 
 
 if __name__ == "__main__":
