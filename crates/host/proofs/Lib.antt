@@ -1,4 +1,5 @@
 pub mod AgeByBits
 pub mod Failed
 pub mod PlaceLaws
+pub mod ResultLaws
 pub mod UserDataLaws

@@ -1,7 +1,11 @@
-// The full check: a call for each of its numbers.
+// The full check: a call for each of its numbers, and one for all of them.
 ghost use mathlib.Core.Path.{_≡_};
 ghost use Rattle.host.specs.Options.{optionsOf};
+ghost use Rattle.host.specs.Results.{Reports, checkReport};
 ghost use Rattle.image.specs.Check.{checkOf};
+use crate::results::FULL_CHECK_RESULTS;
+use crate::results::write_over;
+use header::answer::TOO_SHORT;
 use header::options::Options;
 use image::check::full_check;
 
@@ -111,4 +115,37 @@ pub extern "C" fn slc1_full_check_probes(
         },
     );
     checked.probes
+}
+
+// Writes the answer, the number of live slots, that of TOMBSTONE buckets and the sum of lookup counts to the start of a lent list,
+// whatever the answer is, and answers it. 11 comes before all else, where the list is shorter than 4, and leaves it alone.
+#[no_mangle]
+pub extern "C" fn slc1_full_check_results(
+    image: &[u8],
+    key_size: u64,
+    index_size: u64,
+    slot_capacity: u64,
+    user_version: u64,
+    ordered: u64,
+    role: u64,
+    results: &mut [u64],
+) -> u32
+    ensures { λ r. ⌜ Reports (checkReport (checkOf (optionsOf «key_size» «index_size» «slot_capacity» «user_version» ordered role) (now (image .entry))) (now (results .entry))) r (now (results .exit)) ⌝ }
+{
+    if results.len() < FULL_CHECK_RESULTS {
+        return TOO_SHORT;
+    }
+    let o = Options {
+        key_size,
+        index_size,
+        slot_capacity,
+        user_version,
+        ordered,
+        role,
+    };
+    let result = full_check(image, o);
+    let answer = result.answer as u64;
+    let all = [answer, result.live, result.tombstones, result.probes];
+    write_over(results, &all);
+    result.answer
 }

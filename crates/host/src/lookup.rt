@@ -1,7 +1,12 @@
-// Lookup: a call for each of its numbers.
+// Lookup: a call for each of its numbers, and one for all of them.
 ghost use mathlib.Core.Path.{_≡_};
 ghost use Rattle.host.specs.Options.{optionsOf};
+ghost use Rattle.host.specs.Results.{Reports, lookupReport};
 ghost use Rattle.image.specs.Lookup.{lookupOf};
+use crate::results::LOOKUP_RESULTS;
+use crate::results::word_of;
+use crate::results::write_over;
+use header::answer::TOO_SHORT;
 use header::options::Options;
 use image::lookup::look_up;
 
@@ -119,4 +124,39 @@ pub extern "C" fn slc1_lookup_buckets(
         key,
     );
     found.buckets
+}
+
+// Writes the answer, the slot, the revision as a word of two's complement and the number of buckets to the start of a lent list,
+// whatever the answer is, and answers it. 11 comes before all else, where the list is shorter than 4, and leaves it alone.
+#[no_mangle]
+pub extern "C" fn slc1_lookup_results(
+    image: &[u8],
+    key_size: u64,
+    index_size: u64,
+    slot_capacity: u64,
+    user_version: u64,
+    ordered: u64,
+    role: u64,
+    key: &[u8],
+    results: &mut [u64],
+) -> u32
+    ensures { λ r. ⌜ Reports (lookupReport (lookupOf (optionsOf «key_size» «index_size» «slot_capacity» «user_version» ordered role) (now (image .entry)) (now (key .entry))) (now (results .entry))) r (now (results .exit)) ⌝ }
+{
+    if results.len() < LOOKUP_RESULTS {
+        return TOO_SHORT;
+    }
+    let o = Options {
+        key_size,
+        index_size,
+        slot_capacity,
+        user_version,
+        ordered,
+        role,
+    };
+    let looked_up = look_up(image, o, key);
+    let answer = looked_up.answer as u64;
+    let revision = word_of(looked_up.revision);
+    let all = [answer, looked_up.slot, revision, looked_up.buckets];
+    write_over(results, &all);
+    looked_up.answer
 }
