@@ -10,16 +10,20 @@ use Rattle.host.proofs.lookup.slc1_lookup as lookup
 use Rattle.host.proofs.lookup.slc1_lookup_slot as lookup-slot
 use Rattle.host.proofs.lookup.slc1_lookup_revision as lookup-revision
 use Rattle.host.proofs.lookup.slc1_lookup_buckets as lookup-buckets
+use Rattle.host.proofs.lookup.slc1_lookup_results as lookup-results
 use Rattle.host.proofs.check.slc1_full_check as full-check
 use Rattle.host.proofs.check.slc1_full_check_live as full-check-live
 use Rattle.host.proofs.check.slc1_full_check_tombstones as full-check-tombstones
 use Rattle.host.proofs.check.slc1_full_check_probes as full-check-probes
+use Rattle.host.proofs.check.slc1_full_check_results as full-check-results
 use Rattle.host.proofs.list.slc1_scan as scan
 use Rattle.host.proofs.list.slc1_scan_total as scan-total
 use Rattle.host.proofs.list.slc1_scan_written as scan-written
+use Rattle.host.proofs.list.slc1_scan_results as scan-results
 use Rattle.host.proofs.list.slc1_match as match
 use Rattle.host.proofs.list.slc1_match_total as match-total
 use Rattle.host.proofs.list.slc1_match_written as match-written
+use Rattle.host.proofs.list.slc1_match_results as match-results
 use Rattle.host.proofs.write.slc1_create as create
 use Rattle.host.proofs.write.slc1_begin as begin
 use Rattle.host.proofs.write.slc1_checkpoint as checkpoint
@@ -46,16 +50,20 @@ exports =
       lookup-slot = owing lookup-slot.Reads.Post (λ M. lookup-slot.Met.met) (λ κ a x e p. p);
       lookup-revision = owing lookup-revision.Reads.Post (λ M. lookup-revision.Met.met) (λ κ a x e p. p);
       lookup-buckets = owing lookup-buckets.Reads.Post (λ M. lookup-buckets.Met.met) (λ κ a x e p. p);
+      lookup-results = owing lookup-results.Reads.Post (λ M. lookup-results.Met.met) (λ κ a x e p. λ i. record { answer = p .0 i; results = p .1 i });
       full-check = owing full-check.Reads.Post (λ M. full-check.Met.met) (λ κ a x e p. p);
       full-check-live = owing full-check-live.Reads.Post (λ M. full-check-live.Met.met) (λ κ a x e p. p);
       full-check-tombstones = owing full-check-tombstones.Reads.Post (λ M. full-check-tombstones.Met.met) (λ κ a x e p. p);
       full-check-probes = owing full-check-probes.Reads.Post (λ M. full-check-probes.Met.met) (λ κ a x e p. p);
+      full-check-results = owing full-check-results.Reads.Post (λ M. full-check-results.Met.met) (λ κ a x e p. λ i. record { answer = p .0 i; results = p .1 i });
       scan = owing scan.Reads.Post (λ M. scan.Met.met) (λ κ a x e p. λ i. record { number = p .0 i; numbers = p .1 i });
       scan-total = owing scan-total.Reads.Post (λ M. scan-total.Met.met) (λ κ a x e p. λ i. record { number = p .0 i; numbers = p .1 i });
       scan-written = owing scan-written.Reads.Post (λ M. scan-written.Met.met) (λ κ a x e p. λ i. record { number = p .0 i; numbers = p .1 i });
+      scan-results = owing scan-results.Reads.Post (λ M. scan-results.Met.met) (λ κ a x e p. λ i. record { report = record { answer = p .0 .0 i; results = p .0 .1 i }; numbers = p .1 i });
       match = owing match.Reads.Post (λ M. match.Met.met) (λ κ a x e p. λ i. record { number = p .0 i; numbers = p .1 i });
       match-total = owing match-total.Reads.Post (λ M. match-total.Met.met) (λ κ a x e p. λ i. record { number = p .0 i; numbers = p .1 i });
       match-written = owing match-written.Reads.Post (λ M. match-written.Met.met) (λ κ a x e p. λ i. record { number = p .0 i; numbers = p .1 i });
+      match-results = owing match-results.Reads.Post (λ M. match-results.Met.met) (λ κ a x e p. λ i. record { report = record { answer = p .0 .0 i; results = p .0 .1 i }; numbers = p .1 i });
       create = owing create.Reads.Post (λ M. create.Met.met) (λ κ a x e p. λ i. record { answer = p .0 i; image = p .1 i });
       begin = owing begin.Reads.Post (λ M. begin.Met.met) (λ κ a x e p. λ i. record { answer = p .0 i; image = p .1 i });
       checkpoint = owing checkpoint.Reads.Post (λ M. checkpoint.Met.met) (λ κ a x e p. λ i. record { answer = p .0 i; image = p .1 i });

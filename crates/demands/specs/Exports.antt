@@ -14,6 +14,7 @@ use Rattle.writing.specs.State.{beginOf, checkpointOf, invalidateOf}
 use Rattle.commit.specs.Commit.{commitOf}
 use Rattle.host.specs.Order.{orderNumber}
 use Rattle.host.specs.Places.{totalOf, keyPlace, indexPlace}
+use Rattle.host.specs.Results.{reported, lookupReport, checkReport, reportedListing, listingReport}
 use Rattle.host.specs.UserData.{filled, userDataOf, setUserFieldsFrom}
 use Rattle.host.proofs.sizes.slc1_total_size as total-size
 use Rattle.host.proofs.sizes.slc1_key_offset as key-offset
@@ -25,16 +26,20 @@ use Rattle.host.proofs.lookup.slc1_lookup as lookup
 use Rattle.host.proofs.lookup.slc1_lookup_slot as lookup-slot
 use Rattle.host.proofs.lookup.slc1_lookup_revision as lookup-revision
 use Rattle.host.proofs.lookup.slc1_lookup_buckets as lookup-buckets
+use Rattle.host.proofs.lookup.slc1_lookup_results as lookup-results
 use Rattle.host.proofs.check.slc1_full_check as full-check
 use Rattle.host.proofs.check.slc1_full_check_live as full-check-live
 use Rattle.host.proofs.check.slc1_full_check_tombstones as full-check-tombstones
 use Rattle.host.proofs.check.slc1_full_check_probes as full-check-probes
+use Rattle.host.proofs.check.slc1_full_check_results as full-check-results
 use Rattle.host.proofs.list.slc1_scan as scan
 use Rattle.host.proofs.list.slc1_scan_total as scan-total
 use Rattle.host.proofs.list.slc1_scan_written as scan-written
+use Rattle.host.proofs.list.slc1_scan_results as scan-results
 use Rattle.host.proofs.list.slc1_match as match
 use Rattle.host.proofs.list.slc1_match_total as match-total
 use Rattle.host.proofs.list.slc1_match_written as match-written
+use Rattle.host.proofs.list.slc1_match_results as match-results
 use Rattle.host.proofs.write.slc1_create as create
 use Rattle.host.proofs.write.slc1_begin as begin
 use Rattle.host.proofs.write.slc1_checkpoint as checkpoint
@@ -45,7 +50,7 @@ use Rattle.host.proofs.age.slc1_revision_order as revision-order
 use Rattle.host.proofs.age.slc1_revision_distance as revision-distance
 use Rattle.host.proofs.digest.slc1_fnv1a64 as fnv1a64
 use Rattle.host.proofs.digest.slc1_crc32c as crc32c
-use Rattle.demands.specs.Owes.{Owes, written, beside, one, hostOptions, arg1, arg2, arg7, arg8, arg9, arg10, arg11, arg12, arg13}
+use Rattle.demands.specs.Owes.{Owes, written, beside, one, hostOptions, arg1, arg2, arg7, arg8, arg9, arg10, arg11, arg12, arg13, arg14}
 
 pub record Exports : Type 2 where
   pub total-size :
@@ -88,6 +93,10 @@ pub record Exports : Type 2 where
       Owes lookup-buckets.ended lookup-buckets.Symbol.routine
       (λ κ x e. x)
       (λ κ a. lookupOf (hostOptions (a .1)) (now (arg1 a)) (now (arg8 a)) .buckets)
+  pub lookup-results :
+      Owes lookup-results.ended lookup-results.Symbol.routine
+      (λ κ x e. reported x (now (arg9 e)))
+      (λ κ a. lookupReport (lookupOf (hostOptions (a .1)) (now (arg1 a)) (now (arg8 a))) (now (arg9 a)))
   pub full-check :
       Owes full-check.ended full-check.Symbol.routine
       (λ κ x e. x)
@@ -104,6 +113,10 @@ pub record Exports : Type 2 where
       Owes full-check-probes.ended full-check-probes.Symbol.routine
       (λ κ x e. x)
       (λ κ a. checkOf (hostOptions (a .1)) (now (arg1 a)) .probes)
+  pub full-check-results :
+      Owes full-check-results.ended full-check-results.Symbol.routine
+      (λ κ x e. reported x (now (arg8 e)))
+      (λ κ a. checkReport (checkOf (hostOptions (a .1)) (now (arg1 a))) (now (arg8 a)))
   pub scan :
       Owes scan.ended scan.Symbol.routine
       (λ κ x e. beside x (now (arg10 e)))
@@ -116,6 +129,10 @@ pub record Exports : Type 2 where
       Owes scan-written.ended scan-written.Symbol.routine
       (λ κ x e. beside x (now (arg10 e)))
       (λ κ a. one (λ l. l .written) (scanOf (hostOptions (a .1)) (now (arg1 a)) (arg8 a) (arg9 a) (now (arg10 a))))
+  pub scan-results :
+      Owes scan-results.ended scan-results.Symbol.routine
+      (λ κ x e. reportedListing (reported x (now (arg11 e))) (now (arg10 e)))
+      (λ κ a. listingReport (scanOf (hostOptions (a .1)) (now (arg1 a)) (arg8 a) (arg9 a) (now (arg10 a))) (now (arg10 a)) (now (arg11 a)))
   pub match :
       Owes match.ended match.Symbol.routine
       (λ κ x e. beside x (now (arg13 e)))
@@ -128,6 +145,10 @@ pub record Exports : Type 2 where
       Owes match-written.ended match-written.Symbol.routine
       (λ κ x e. beside x (now (arg13 e)))
       (λ κ a. one (λ l. l .written) (matchOf (hostOptions (a .1)) (now (arg1 a)) (arg8 a) (arg9 a) (now (arg10 a)) (arg11 a) (arg12 a) (now (arg13 a))))
+  pub match-results :
+      Owes match-results.ended match-results.Symbol.routine
+      (λ κ x e. reportedListing (reported x (now (arg14 e))) (now (arg13 e)))
+      (λ κ a. listingReport (matchOf (hostOptions (a .1)) (now (arg1 a)) (arg8 a) (arg9 a) (now (arg10 a)) (arg11 a) (arg12 a) (now (arg13 a))) (now (arg13 a)) (now (arg14 a)))
   pub create :
       Owes create.ended create.Symbol.routine
       (λ κ x e. written x (now (arg1 e)))

@@ -86,6 +86,9 @@ arg12 a = arg11 (a .1)
 abbrev pub arg13 : {A B C D E F G H I J K L M N : Type 0} → A × (B × (C × (D × (E × (F × (G × (H × (I × (J × (K × (L × (M × N)))))))))))) → M
 arg13 a = arg12 (a .1)
 
+abbrev pub arg14 : {A B C D E F G H I J K L M N O : Type 0} → A × (B × (C × (D × (E × (F × (G × (H × (I × (J × (K × (L × (M × (N × O))))))))))))) → N
+arg14 a = arg13 (a .1)
+
 -- the six numbers by which C hands over the options
 abbrev pub hostOptions : {A : Type 0} → ℕ × (ℕ × (ℕ × (ℕ × (ℕ × (ℕ × A))))) → Options
 hostOptions a = optionsOf (arg1 a) (arg2 a) (arg3 a) (arg4 a) (arg5 a) (arg6 a)
