@@ -129,6 +129,15 @@ int64_t slc1_lookup_revision(const uint8_t *image, size_t length, SLC1_SIX_NUMBE
 /* The number of buckets examined, the last included, for a key that is found or not present. */
 uint64_t slc1_lookup_buckets(const uint8_t *image, size_t length, SLC1_SIX_NUMBERS, const uint8_t *key, size_t key_length);
 
+#define SLC1_LOOKUP_RESULTS 4
+
+/* All of these by one lookup. Writes the answer, the slot, the revision (in two's complement: cast it to int64_t) and the
+ * number of buckets to the start of results, also where the answer is not 0, and answers it. 11, before every test, where
+ * results has fewer than SLC1_LOOKUP_RESULTS entries: it is left alone then. Entries past those written are unchanged. */
+uint32_t slc1_lookup_results(
+    const uint8_t *image, size_t length, SLC1_SIX_NUMBERS, const uint8_t *key, size_t key_length, uint64_t *results,
+    size_t results_count);
+
 /* Full check: the header, every slot and every bucket. */
 
 /* The header test's number where that is not 0; then 0 where everything fits together, else 1. */
@@ -143,8 +152,15 @@ uint64_t slc1_full_check_tombstones(const uint8_t *image, size_t length, SLC1_SI
 /* The sum of slc1_lookup_buckets over the live keys. */
 uint64_t slc1_full_check_probes(const uint8_t *image, size_t length, SLC1_SIX_NUMBERS);
 
+#define SLC1_FULL_CHECK_RESULTS 4
+
+/* All of these by one full check, as slc1_lookup_results does: the answer, the live slots, the buckets left behind and the
+ * sum. */
+uint32_t slc1_full_check_results(
+    const uint8_t *image, size_t length, SLC1_SIX_NUMBERS, uint64_t *results, size_t results_count);
+
 /* Scan: the live slots, ascending. The first skip of them are left out, and at most limit are written to numbers, a list
- * of count entries. Entries past those written are unchanged. Each of the three functions fills the list. */
+ * of count entries. Entries past those written are unchanged. Each of the four functions fills the list. */
 
 /* 0, or 11 where the list is shorter than the number of slots to write. */
 uint32_t slc1_scan(
@@ -157,6 +173,14 @@ uint64_t slc1_scan_total(
 /* The number of entries written. */
 uint64_t slc1_scan_written(
     const uint8_t *image, size_t length, SLC1_SIX_NUMBERS, uint64_t skip, uint64_t limit, uint32_t *numbers, size_t count);
+
+#define SLC1_LISTING_RESULTS 3
+
+/* All of these by one scan, as slc1_lookup_results does: the answer, the total and the number written. Where results is too
+ * short, numbers is left alone too. */
+uint32_t slc1_scan_results(
+    const uint8_t *image, size_t length, SLC1_SIX_NUMBERS, uint64_t skip, uint64_t limit, uint32_t *numbers, size_t count,
+    uint64_t *results, size_t results_count);
 
 /* Match: as scan, for the live slots in whose key, from a byte offset on, the first bits are those of the pattern; the
  * most significant bit of a byte comes first. The pattern has (bits + 7) / 8 bytes; spare bits of its last byte are
@@ -176,6 +200,12 @@ uint64_t slc1_match_total(
 uint64_t slc1_match_written(
     const uint8_t *image, size_t length, SLC1_SIX_NUMBERS, uint64_t offset, uint64_t bits, const uint8_t *pattern,
     size_t pattern_length, uint64_t skip, uint64_t limit, uint32_t *numbers, size_t count);
+
+/* All of these by one match, as slc1_scan_results does. */
+uint32_t slc1_match_results(
+    const uint8_t *image, size_t length, SLC1_SIX_NUMBERS, uint64_t offset, uint64_t bits, const uint8_t *pattern,
+    size_t pattern_length, uint64_t skip, uint64_t limit, uint32_t *numbers, size_t count, uint64_t *results,
+    size_t results_count);
 
 /* Create. */
 

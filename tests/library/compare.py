@@ -52,6 +52,11 @@ class Comparison:
         return self.random.choice((0, 1, most, self.random.randrange(most + 2), 2**32, 2**63, 2**64 - 1))
 
 
+    def results(self):
+        """A list for the numbers of a call: often too short, often with entries to spare."""
+        return [self.random.getrandbits(64) for _ in range(self.random.randrange(7))]
+
+
 def digests(comparison):
     for _ in range(30000):
         comparison.same("fnv1a64", comparison.random.randbytes(comparison.random.randrange(81)))
@@ -75,9 +80,12 @@ def places(comparison):
 
 
 def lookups(comparison, image, o):
-    comparison.same("lookup", image, o, comparison.images.key(o) if 0 < o.key_size <= 80 else b"")
+    keys = [comparison.images.key(o) if 0 < o.key_size <= 80 else b""]
     if comparison.random.random() < 0.2:
-        comparison.same("lookup", image, o, comparison.random.randbytes(comparison.random.randrange(81)))
+        keys.append(comparison.random.randbytes(comparison.random.randrange(81)))
+    for key in keys:
+        comparison.same("lookup", image, o, key)
+        comparison.same("lookup_results", image, o, key, comparison.results())
 
 
 def pattern(comparison, o):
@@ -96,9 +104,11 @@ def pattern(comparison, o):
 
 def listings(comparison, image, o):
     numbers = [comparison.random.getrandbits(32) for _ in range(comparison.random.randrange(8))]
-    window = comparison.number(6), comparison.number(6)
+    window, matched = (comparison.number(6), comparison.number(6)), pattern(comparison, o)
     comparison.same("scan", image, o, *window, numbers)
-    comparison.same("match", image, o, *pattern(comparison, o), *window, numbers)
+    comparison.same("scan_results", image, o, *window, numbers, comparison.results())
+    comparison.same("match", image, o, *matched, *window, numbers)
+    comparison.same("match_results", image, o, *matched, *window, numbers, comparison.results())
 
 
 def readings(comparison):
@@ -109,6 +119,7 @@ def readings(comparison):
             asked = comparison.images.asked(o)
             comparison.same("open_check", image, asked)
             comparison.same("full_check", image, asked)
+            comparison.same("full_check_results", image, asked, comparison.results())
             lookups(comparison, image, asked)
             listings(comparison, image, asked)
 

@@ -15,6 +15,21 @@ static void same(const char *what, uint64_t got, uint64_t wanted)
     }
 }
 
+/* A list of results with one entry more than any call writes, each first 99. */
+enum { ROOM = 5 };
+
+static void fresh_results(uint64_t *results)
+{
+    for (size_t i = 0; i < ROOM; i++)
+        results[i] = 99;
+}
+
+static void reported(const char *what, const uint64_t *results, size_t count, const uint64_t *wanted)
+{
+    for (size_t i = 0; i < ROOM; i++)
+        same(what, results[i], i < count ? wanted[i] : 99);
+}
+
 static void digests(void)
 {
     const uint8_t foobar[] = {'f', 'o', 'o', 'b', 'a', 'r'};
@@ -143,11 +158,32 @@ static void opened(void)
 static void looked_up(const char *key, size_t length, uint32_t answer, uint64_t slot, int64_t revision, uint64_t buckets)
 {
     const uint8_t *bytes = (const uint8_t *)key;
+    const uint64_t all[SLC1_LOOKUP_RESULTS] = {answer, slot, (uint64_t)revision, buckets};
+    uint64_t results[ROOM];
 
+    fresh_results(results);
+    same(key, slc1_lookup_results(image, TOTAL, SLC1_OPTIONS(&options), bytes, length, results, 3), SLC1_TOO_SHORT);
+    reported("lookup, results left alone", results, 0, all);
+    same(key, slc1_lookup_results(image, TOTAL, SLC1_OPTIONS(&options), bytes, length, results, ROOM), answer);
+    reported(key, results, SLC1_LOOKUP_RESULTS, all);
     same(key, slc1_lookup(image, TOTAL, SLC1_OPTIONS(&options), bytes, length), answer);
     same(key, slc1_lookup_slot(image, TOTAL, SLC1_OPTIONS(&options), bytes, length), slot);
     same(key, (uint64_t)slc1_lookup_revision(image, TOTAL, SLC1_OPTIONS(&options), bytes, length), (uint64_t)revision);
     same(key, slc1_lookup_buckets(image, TOTAL, SLC1_OPTIONS(&options), bytes, length), buckets);
+}
+
+/* No image, and no room for the results: the room is judged first. */
+static void looked_up_refused(void)
+{
+    const uint64_t all[SLC1_LOOKUP_RESULTS] = {SLC1_CREATE_IT, 0, 0, 0};
+    const uint8_t *key = (const uint8_t *)"abc";
+    uint64_t results[ROOM];
+
+    fresh_results(results);
+    same("of nothing, too short", slc1_lookup_results(image, 0, SLC1_OPTIONS(&options), key, 3, results, 0), SLC1_TOO_SHORT);
+    reported("of nothing, left alone", results, 0, all);
+    same("of nothing", slc1_lookup_results(image, 0, SLC1_OPTIONS(&options), key, 3, results, 4), SLC1_CREATE_IT);
+    reported("of nothing, written", results, SLC1_LOOKUP_RESULTS, all);
 }
 
 static void lookups(void)
@@ -155,12 +191,21 @@ static void lookups(void)
     looked_up("abc", 3, SLC1_DONE, 1, -7, 2);
     looked_up("abg", 3, SLC1_NOT_PRESENT, 0, 0, 3);
     looked_up("abc", 2, SLC1_INVALID_INPUT, 0, 0, 0);
+    looked_up_refused();
     same("the index of abc", (uint64_t)memcmp(image + slc1_index_offset(SLC1_OPTIONS(&options), 1), "index", 5), 0);
     same("the key of slot 1", (uint64_t)memcmp(image + slc1_key_offset(SLC1_OPTIONS(&options), 1), "abc", 3), 0);
 }
 
 static void checked(uint32_t answer, uint64_t live, uint64_t tombstones, uint64_t probes)
 {
+    const uint64_t all[SLC1_FULL_CHECK_RESULTS] = {answer, live, tombstones, probes};
+    uint64_t results[ROOM];
+
+    fresh_results(results);
+    same("full check, too short", slc1_full_check_results(image, TOTAL, SLC1_OPTIONS(&options), results, 3), SLC1_TOO_SHORT);
+    reported("full check, results left alone", results, 0, all);
+    same("full check, all", slc1_full_check_results(image, TOTAL, SLC1_OPTIONS(&options), results, ROOM), answer);
+    reported("full check, results", results, SLC1_FULL_CHECK_RESULTS, all);
     same("full check", slc1_full_check(image, TOTAL, SLC1_OPTIONS(&options)), answer);
     same("live", slc1_full_check_live(image, TOTAL, SLC1_OPTIONS(&options)), live);
     same("tombstones", slc1_full_check_tombstones(image, TOTAL, SLC1_OPTIONS(&options)), tombstones);
@@ -197,6 +242,41 @@ static void listings(void)
     same("number 0", numbers[0], 1);
     same("match total", slc1_match_total(image, TOTAL, SLC1_OPTIONS(&options), 0, 12, twelve_bits, 2, 1, 9, numbers, 2), 1);
     same("match written", slc1_match_written(image, TOTAL, SLC1_OPTIONS(&options), 0, 12, twelve_bits, 2, 0, 9, numbers, 2), 1);
+}
+
+/* A scan, or with bits a match, of the image, with results of count entries: what it answers, and number 0 afterwards. */
+static void listed(uint64_t bits, const uint8_t *pattern, uint64_t skip, size_t count, const uint64_t *all, uint32_t first)
+{
+    uint32_t numbers[] = {77, 77};
+    uint64_t results[ROOM];
+    uint32_t answer;
+
+    fresh_results(results);
+    if (bits == 0)
+        answer = slc1_scan_results(image, TOTAL, SLC1_OPTIONS(&options), skip, 9, numbers, 2, results, count);
+    else
+        answer = slc1_match_results(
+            image, TOTAL, SLC1_OPTIONS(&options), 0, bits, pattern, 2, skip, 9, numbers, 2, results, count);
+    same("listing, all", answer, count < SLC1_LISTING_RESULTS ? SLC1_TOO_SHORT : all[0]);
+    reported("listing, results", results, count < SLC1_LISTING_RESULTS ? 0 : SLC1_LISTING_RESULTS, all);
+    same("listing, number 0", numbers[0], first);
+    same("listing, number 1", numbers[1], 77);
+}
+
+static void listings_reported(void)
+{
+    const uint8_t twelve_bits[] = {'a', 0x6f}, other[] = {'a', 0x70};
+    const uint64_t one[] = {SLC1_DONE, 1, 1}, skipped[] = {SLC1_DONE, 1, 0}, none[] = {SLC1_DONE, 0, 0};
+    const uint64_t refused[] = {SLC1_INVALID_INPUT, 0, 0};
+
+    listed(0, NULL, 0, ROOM, one, 1);
+    listed(0, NULL, 1, SLC1_LISTING_RESULTS, skipped, 77);
+    listed(0, NULL, 0, 2, one, 77);
+    listed(12, twelve_bits, 0, ROOM, one, 1);
+    listed(12, twelve_bits, 1, SLC1_LISTING_RESULTS, skipped, 77);
+    listed(12, twelve_bits, 0, 2, one, 77);
+    listed(12, other, 0, ROOM, none, 77);
+    listed(3, other, 0, ROOM, refused, 77);
 }
 
 static void written(void)
@@ -267,6 +347,7 @@ int main(void)
     lookups();
     full_checks();
     listings();
+    listings_reported();
     written();
     batches();
     if (differences == 0)

@@ -330,6 +330,21 @@ def lookup(image, o, key):
     return probe(Table(image, o), key)
 
 
+def report(numbers, results):
+    """All numbers of a call, the answer first, in a lent list of 64-bit numbers (DECISIONS.md, "All numbers in one
+    call"); the answer comes back."""
+    # "lent output too short: 11"
+    if len(results) < len(numbers):
+        return 11
+    results[:len(numbers)] = [number % 2**64 for number in numbers]
+    return numbers[0]
+
+
+def lookup_results(image, o, key, results):
+    found = lookup(image, o, key)
+    return report((found.answer, found.slot, found.revision, found.buckets), results)
+
+
 def bucket_holds(bucket, slots):
     slot_number = bucket.slot_plus1 - 1
     return (slot_number < len(slots) and slots[slot_number].meta == 1
@@ -366,6 +381,10 @@ def full_check(image, o):
         return FullCheck(1)
     # "It returns live, tombstones and the sum of lookup counts over live keys."
     return FullCheck(0, header.live_count, header.bucket_tombstones, probes)
+
+
+def full_check_results(image, o, results):
+    return report(full_check(image, o), results)
 
 
 def fullcheck_program(standard_input):
@@ -578,6 +597,15 @@ def scan(image, o, skip, limit, numbers):
     return listed([slot_number for slot_number, _ in live_keys(image, o)], skip, limit, numbers)
 
 
+def listing_results(call, numbers, results):
+    # Too short a list of results is refused before anything is written, to either list.
+    return report(call(numbers) if len(results) >= 3 else Listed(11), results)
+
+
+def scan_results(image, o, skip, limit, numbers, results):
+    return listing_results(lambda lent: scan(image, o, skip, limit, lent), numbers, results)
+
+
 def match_tests(image, o, offset, bits, pattern):
     yield from header_tests(image, o)
     # "The pattern has exactly the bytes needed; [...] 7 if bits is 0, the pattern's length
@@ -601,6 +629,10 @@ def match(image, o, offset, bits, pattern, skip, limit, numbers):
     matching = [slot_number for slot_number, key in live_keys(image, o)
                 if first_bits(key[offset:end], bits) == wanted]
     return listed(matching, skip, limit, numbers)
+
+
+def match_results(image, o, offset, bits, pattern, skip, limit, numbers, results):
+    return listing_results(lambda lent: match(image, o, offset, bits, pattern, skip, limit, lent), numbers, results)
 
 
 def revision_age(first, second):

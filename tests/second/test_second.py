@@ -10,8 +10,9 @@ from collections import namedtuple
 from second import (
     CLEAN, DIRTY, EMPTY, INVALIDATED, TOMBSTONE, Age, FullCheck, Listed, Lookup, OpenCheck, Options,
     begin, bucket_count, buckets_offset, checkpoint, commit, crc32c, crc32c_bitwise, create, field,
-    fnv1a64, full_check, fullcheck_program, header_crc32c, header_test, invalidate, lookup, match,
-    open_check, revision_age, scan, set_user_fields, slot_size, total_size, write_fields)
+    fnv1a64, full_check, full_check_results, fullcheck_program, header_crc32c, header_test,
+    invalidate, lookup, lookup_results, match, match_results, open_check, revision_age, scan,
+    scan_results, set_user_fields, slot_size, total_size, write_fields)
 
 BASE = Options(key_size=3, index_size=2, slot_capacity=4, user_version=7, ordered=0, role=2)
 BENCH = Options(key_size=12, index_size=20, slot_capacity=512, user_version=1, ordered=0, role=2)
@@ -633,6 +634,49 @@ class Refusals(Case):
     def test_user_data_of_another_length(self):
         for role, length in itertools.product(range(3), (0, 63, 65)):
             self.assert_refused(7, set_user_fields, fresh(BASE), BASE._replace(role=role), 1, bytes(length))
+
+
+class Results(Case):
+    """All numbers of a call in one list: an image with "abc" in slot 0, deleted, and "abd" in slot 1."""
+
+    image = begun(BASE, put(BASE, b"abc") + put(BASE, b"abd", revision=-2), delete(BASE, b"abc"))
+
+    def assert_reports(self, wanted, call, *arguments):
+        """In every list that has room; in any other nothing is written."""
+        for length in range(7):
+            results, room = [99] * length, length >= len(wanted)
+            self.assertEqual(call(*arguments, results), wanted[0] if room else 11)
+            self.assertEqual(results, wanted + [99] * (length - len(wanted)) if room else [99] * length)
+
+    def test_lookup(self):
+        buckets = lookup(self.image, BASE, b"abd").buckets
+        self.assert_reports([0, 1, 2**64 - 2, buckets], lookup_results, self.image, BASE, b"abd")
+        buckets = lookup(self.image, BASE, b"abc").buckets
+        self.assert_reports([9, 0, 0, buckets], lookup_results, self.image, BASE, b"abc")
+        self.assert_reports([7, 0, 0, 0], lookup_results, self.image, BASE, b"ab")
+        self.assert_reports([10, 0, 0, 0], lookup_results, b"", BASE, b"abd")
+
+    def test_full_check(self):
+        probes = lookup(self.image, BASE, b"abd").buckets
+        self.assert_reports([0, 1, 1, probes], full_check_results, self.image, BASE)
+        self.assert_reports([1, 0, 0, 0], full_check_results, self.image[:255], BASE)
+
+    def test_listings(self):
+        scanned, matched = (scan_results, self.image, BASE), (match_results, self.image, BASE, 2, 8, b"d")
+        for call, *arguments in (scanned, matched):
+            self.assert_reports([0, 1, 1], call, *arguments, 0, 9, [5, 6])
+            self.assert_reports([0, 1, 0], call, *arguments, 1, 9, [5, 6])
+            self.assert_reports([11, 0, 0], call, *arguments, 0, 9, [])
+        self.assert_reports([7, 0, 0], match_results, self.image, BASE, 2, 0, b"", 0, 9, [5, 6])
+
+    def test_a_list_of_results_too_short_leaves_both_lists_alone(self):
+        numbers, results = [5, 6], [99, 99]
+        self.assertEqual(scan_results(self.image, BASE, 0, 9, numbers, results), 11)
+        self.assertEqual(match_results(self.image, BASE, 2, 8, b"d", 0, 9, numbers, results), 11)
+        self.assertEqual((numbers, results), ([5, 6], [99, 99]))
+        results.append(99)
+        self.assertEqual(scan_results(self.image, BASE, 0, 9, numbers, results), 0)
+        self.assertEqual((numbers, results), ([1, 6], [0, 1, 1]))
 
 
 class FullCheckSentences(Case):
