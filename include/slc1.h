@@ -2,10 +2,10 @@
  *
  * An image is the bytes of one cache: a header, then slots, then buckets. The caller lends it to each call, with the
  * options that it should have, and gets one number back. A call that has several results has a function for each, and
- * each of these does the whole work.
+ * each of these does the whole work; slc1_..._results does it once, and writes all of them to a lent list.
  *
- * A slice is a pointer and a length; the pointer is never NULL, also where the length is 0. Slices lent to one call do
- * not overlap where one of them is written. Nothing is kept between calls: what is lent is the caller's own again when
+ * A slice is a pointer and a length. The pointer must not be NULL, not even where the length is 0. Slices lent to one call
+ * do not overlap where one of them is written. Nothing is kept between calls: what is lent is the caller's own again when
  * the call returns. No call allocates, blocks or fails otherwise than by the number that it gives back.
  *
  * Lent bytes stand still during a call. A shared mapping that another process may write is copied first, and the copy
@@ -18,6 +18,7 @@
 
 #include <stddef.h>
 #include <stdint.h>
+#include <string.h>
 
 /* The version. With another major number a host is to be built anew, or changed first: the shared object's name has it.
  * SLC1_VERSION is "major.minor.patch". */
@@ -32,8 +33,8 @@
 extern "C" {
 #endif
 
-/* What a call answers. With any number but SLC1_DONE every lent byte is left alone, and every other result is 0, save
- * that the number of buckets comes with SLC1_NOT_PRESENT too. */
+/* What a call answers. With any number but SLC1_DONE every lent byte is left alone, but for a list of results, and every
+ * other result is 0, save that the number of buckets comes with SLC1_NOT_PRESENT too. */
 enum {
     SLC1_DONE = 0,          /* done, or found */
     SLC1_NEEDS_REBUILD = 1, /* damaged, or left dirty by a writer */
@@ -85,6 +86,9 @@ uint64_t slc1_key_offset(SLC1_SIX_NUMBERS, uint64_t slot);
 /* Where in the image the index_size bytes of a slot's index begin. */
 uint64_t slc1_index_offset(SLC1_SIX_NUMBERS, uint64_t slot);
 
+/* The header comes first; behind it stand the slots, and then the buckets. */
+#define SLC1_HEADER_SIZE 256
+
 /* A slot, and a record of a batch:
  *
  *     offset                      width        what it holds
@@ -120,7 +124,8 @@ uint32_t slc1_user_data(const uint8_t *image, size_t length, SLC1_SIX_NUMBERS, u
 /* 0 found, 9 not present, 1 where the probe runs into damage, 7 where key_length is not key_size. */
 uint32_t slc1_lookup(const uint8_t *image, size_t length, SLC1_SIX_NUMBERS, const uint8_t *key, size_t key_length);
 
-/* The slot of a key that is found: its index stands at slc1_index_offset. */
+/* The slot of a key that is found: its index stands at slc1_index_offset. Where the key is not found this is 0, and 0 is
+ * also the number of a slot: ask slc1_lookup first, or slc1_get. */
 uint64_t slc1_lookup_slot(const uint8_t *image, size_t length, SLC1_SIX_NUMBERS, const uint8_t *key, size_t key_length);
 
 /* The revision of a key that is found. */
@@ -266,6 +271,99 @@ uint64_t slc1_fnv1a64(const uint8_t *bytes, size_t length);
 
 /* The CRC32-C (Castagnoli) of bytes. */
 uint32_t slc1_crc32c(const uint8_t *bytes, size_t length);
+
+/* Helpers, made of the calls above: they are compiled with the host, and are not proved. */
+
+/* A sentence for an answer. */
+static inline const char *slc1_text(uint32_t answer)
+{
+    switch (answer) {
+    case SLC1_DONE: return "done, or found";
+    case SLC1_NEEDS_REBUILD: return "the image is damaged, or was left dirty by a writer: build it again";
+    case SLC1_INCOMPATIBLE: return "the image is of another format, or has other options";
+    case SLC1_INVALIDATED: return "the image was given up on purpose: build it again";
+    case SLC1_BUSY: return "another writer is active: try again";
+    case SLC1_FULL: return "no slots are left for the new keys";
+    case SLC1_OUT_OF_ORDER: return "a new key is below the last of an ordered image";
+    case SLC1_INVALID_INPUT: return "options, key, pattern or batch are such as no call takes";
+    case SLC1_NOT_PRESENT: return "the key is not there";
+    case SLC1_CREATE_IT: return "the image has length 0: create it";
+    case SLC1_TOO_SHORT: return "a lent output is too short";
+    default: return "a number that no call answers";
+    }
+}
+
+/* The u64 that stands little-endian in 8 bytes; of a revision, as (int64_t)slc1_word_at(...). */
+static inline uint64_t slc1_word_at(const uint8_t *bytes)
+{
+    uint64_t word = 0;
+
+    for (int i = 0; i < 8; i++)
+        word |= (uint64_t)bytes[i] << 8 * i;
+    return word;
+}
+
+/* Writes a u64 little-endian to 8 bytes. */
+static inline void slc1_put_word(uint8_t *bytes, uint64_t word)
+{
+    for (int i = 0; i < 8; i++)
+        bytes[i] = (uint8_t)(word >> 8 * i);
+}
+
+/* The index bytes of a key, in the image, where it is found; else NULL. Answer, slot, revision and buckets are those of
+ * slc1_lookup_results; each pointer may be NULL. */
+static inline const uint8_t *slc1_get(
+    const uint8_t *image, size_t length, const slc1_options *options, const uint8_t *key, size_t key_length,
+    uint32_t *answer, uint64_t *slot, int64_t *revision, uint64_t *buckets)
+{
+    uint64_t results[SLC1_LOOKUP_RESULTS];
+    uint32_t found =
+        slc1_lookup_results(image, length, SLC1_OPTIONS(options), key, key_length, results, SLC1_LOOKUP_RESULTS);
+
+    if (answer != NULL)
+        *answer = found;
+    if (slot != NULL)
+        *slot = results[1];
+    if (revision != NULL)
+        *revision = (int64_t)results[2];
+    if (buckets != NULL)
+        *buckets = results[3];
+    return found == SLC1_DONE ? image + slc1_index_offset(SLC1_OPTIONS(options), results[1]) : NULL;
+}
+
+/* Writes a record that deletes a key to the start of a lent buffer, padding included: 0; 7 where the options are out of
+ * range or key_length is not key_size; 11 where the buffer is shorter than SLC1_RECORD_SIZE. Any other number than 0
+ * leaves the buffer alone. */
+static inline uint32_t slc1_delete_record(
+    uint8_t *record, size_t length, const slc1_options *options, const uint8_t *key, size_t key_length)
+{
+    if (slc1_total_size(SLC1_OPTIONS(options)) == 0 || key_length != options->key_size)
+        return SLC1_INVALID_INPUT;
+    if (length < SLC1_RECORD_SIZE(options->key_size, options->index_size))
+        return SLC1_TOO_SHORT;
+    memset(record, 0, (size_t)SLC1_RECORD_SIZE(options->key_size, options->index_size));
+    memcpy(record + SLC1_KEY_AT, key, key_length);
+    return SLC1_DONE;
+}
+
+/* Writes a record that puts a key, in the same way; 7 also where index_length is not index_size. The index may be NULL
+ * where that is 0. */
+static inline uint32_t slc1_put_record(
+    uint8_t *record, size_t length, const slc1_options *options, const uint8_t *key, size_t key_length, int64_t revision,
+    const uint8_t *index, size_t index_length)
+{
+    uint32_t answer = index_length != options->index_size
+        ? (uint32_t)SLC1_INVALID_INPUT
+        : slc1_delete_record(record, length, options, key, key_length);
+
+    if (answer != SLC1_DONE)
+        return answer;
+    slc1_put_word(record, 1);
+    slc1_put_word(record + SLC1_REVISION_AT(key_length), (uint64_t)revision);
+    if (index_length > 0)
+        memcpy(record + SLC1_INDEX_AT(key_length), index, index_length);
+    return SLC1_DONE;
+}
 
 #ifdef __cplusplus
 }

@@ -1,5 +1,5 @@
 """docs/promises.md and docs/audit.md against the tree: every file and wrong program that they name is there, every definition
-stands in a file beside it; promises.md names every wrong program and every call of slc1.h, and audit.md every experiment."""
+stands in a file beside it; promises.md names every wrong program and every function of slc1.h, and audit.md every experiment."""
 
 import collections
 import os
@@ -8,7 +8,7 @@ import sys
 
 sys.path.append(sys.path[0] + "/../proofs")
 
-from wrong_programs import ROOT, crates, wrong_programs
+from wrong_programs import ROOT, calls, crates, helpers, wrong_programs
 
 OUTSIDE = ("crates/", "tests/", "tools/", "examples/", "docs/", "include/", "target/", ".ci/", "crates.txt")
 
@@ -74,9 +74,8 @@ def complaints():
             tried[wrong.where.split("::")[-1]].add(wrong.name)
     promises, audit = read("docs/promises.md"), read("docs/audit.md")
     named = set(names(promises))
-    calls = set(re.findall(r"\bslc1_\w+(?=\()", read("include/slc1.h")))
     experiments = set(re.findall(r'^    "(\w+)": Experiment', read("tests/proofs/experiments.py"), re.M))
-    yield from (f"docs/promises.md does not name {name}" for name in sorted((known | calls) - named))
+    yield from (f"docs/promises.md does not name {name}" for name in sorted((known | calls() | helpers()) - named))
     yield from (f"docs/audit.md does not name {name}" for name in sorted(experiments - set(names(audit))))
     for file, text in (("docs/promises.md", promises), ("docs/audit.md", audit)):
         yield from (f"{file}: {said}" for said in table_complaints(text, known | set(crates()), tried))

@@ -336,6 +336,63 @@ static void batches(void)
     same("one more", slc1_commit(fresh, sizeof fresh, SLC1_OPTIONS(&own), batch, LIMIT + RECORD), SLC1_INVALID_INPUT);
 }
 
+/* The helpers of the header: what they refuse, and what they make of keys and indexes of the right length. */
+static void helpers(void)
+{
+    const slc1_options wrong = {65, 5, 2, 9, 0, SLC1_NO_WRITER_KNOWN}, plain = {3, 0, 2, 9, 0, SLC1_NO_WRITER_KNOWN};
+    const uint8_t *abc = (const uint8_t *)"abc", *index = (const uint8_t *)"index";
+    const uint8_t put_abc[32] = {1, [8] = 'a', 'b', 'c', [16] = 0xf9, 0xff, 0xff, 0xff, 0xff, 0xff, 0xff, 0xff, 'i', 'n', 'd', 'e', 'x'};
+    const uint8_t delete_abc[32] = {[8] = 'a', 'b', 'c'};
+    uint8_t record[33];
+
+    memset(record, 99, sizeof record);
+    same("a put of a short key", slc1_put_record(record, 32, &options, abc, 2, -7, index, 5), SLC1_INVALID_INPUT);
+    same("a put of a long key", slc1_put_record(record, 32, &options, abc, 4, -7, index, 5), SLC1_INVALID_INPUT);
+    same("a put of a short index", slc1_put_record(record, 32, &options, abc, 3, -7, index, 4), SLC1_INVALID_INPUT);
+    same("a put of a long index", slc1_put_record(record, 32, &options, abc, 3, -7, index, 6), SLC1_INVALID_INPUT);
+    same("a put of wrong options", slc1_put_record(record, 32, &wrong, abc, 65, -7, index, 5), SLC1_INVALID_INPUT);
+    same("a put in too little room", slc1_put_record(record, 31, &options, abc, 3, -7, index, 5), SLC1_TOO_SHORT);
+    same("a delete of a short key", slc1_delete_record(record, 32, &options, abc, 2), SLC1_INVALID_INPUT);
+    same("a delete in too little room", slc1_delete_record(record, 31, &options, abc, 3), SLC1_TOO_SHORT);
+    for (size_t i = 0; i < sizeof record; i++)
+        same("a record left alone", record[i], 99);
+    same("a put", slc1_put_record(record, 33, &options, abc, 3, -7, index, 5), SLC1_DONE);
+    same("its bytes", (uint64_t)memcmp(record, put_abc, 32), 0);
+    same("its revision", slc1_word_at(record + SLC1_REVISION_AT(3)), (uint64_t)-7);
+    same("a delete", slc1_delete_record(record, 33, &options, abc, 3), SLC1_DONE);
+    same("its bytes", (uint64_t)memcmp(record, delete_abc, 32), 0);
+    same("a put without an index", slc1_put_record(record, 33, &plain, abc, 3, 0, NULL, 0), SLC1_DONE);
+    same("the byte past a record", record[32], 99);
+
+    for (uint32_t answer = 0; answer < 40; answer++)
+        same("a sentence for each number", slc1_text(answer)[0] != '\0', 1);
+    same("its own", (uint64_t)strcmp(slc1_text(SLC1_FULL), slc1_text(SLC1_BUSY)) != 0, 1);
+}
+
+/* slc1_get of keys that are found, not present and refused; and where nothing but the index is asked for. */
+static void gets(void)
+{
+    uint32_t answer = 99;
+    uint64_t slot = 99, buckets = 99;
+    int64_t revision = 99;
+    const uint8_t *index = slc1_get(image, TOTAL, &options, (const uint8_t *)"abc", 3, &answer, &slot, &revision, &buckets);
+
+    same("found", index == image + slc1_index_offset(SLC1_OPTIONS(&options), 1), 1);
+    same("its answer", answer, SLC1_DONE);
+    same("its slot", slot, 1);
+    same("its revision", (uint64_t)revision, (uint64_t)-7);
+    same("its buckets", buckets, 2);
+    same("found again", slc1_get(image, TOTAL, &options, (const uint8_t *)"abc", 3, NULL, NULL, NULL, NULL) == index, 1);
+    same("not present", slc1_get(image, TOTAL, &options, (const uint8_t *)"abg", 3, &answer, &slot, &revision, &buckets) == NULL, 1);
+    same("its answer", answer, SLC1_NOT_PRESENT);
+    same("no slot", slot, 0);
+    same("no revision", (uint64_t)revision, 0);
+    same("its buckets", buckets, 3);
+    same("refused", slc1_get(image, TOTAL, &options, (const uint8_t *)"abc", 2, &answer, NULL, NULL, &buckets) == NULL, 1);
+    same("its answer", answer, SLC1_INVALID_INPUT);
+    same("no buckets", buckets, 0);
+}
+
 int main(void)
 {
     digests();
@@ -345,11 +402,13 @@ int main(void)
     lay_out();
     opened();
     lookups();
+    gets();
     full_checks();
     listings();
     listings_reported();
     written();
     batches();
+    helpers();
     if (differences == 0)
         puts("every call of slc1.h answers as it should");
     return differences != 0;

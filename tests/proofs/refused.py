@@ -10,7 +10,7 @@ import os
 import re
 import sys
 
-from wrong_programs import ROOT, wrong_programs
+from wrong_programs import ROOT, calls, wrong_programs
 
 # a refusal that shows a fact which fails, as the prover words it: omega's numbers, or where two terms differ
 FACT = re.compile(
@@ -67,10 +67,8 @@ for wrong in programs:
     if said:
         print(f"{wrong.crate}/{wrong.edit}: {wrong.name} {wrong.kind} {wrong.where} {said}")
         found += 1
-with open(os.path.join(ROOT, "include", "slc1.h")) as header:
-    calls = set(re.findall(r"\bslc1_\w+(?=\()", header.read()))
 tried = collections.Counter(wrong.where.split("::")[-1] for wrong in programs if wrong.crate == "host")
-for call in sorted(calls) if tried else []:
+for call in sorted(calls()) if tried else []:
     if tried[call] < 2:
         print(f"{call} has {tried[call]} wrong programs in crates/host/must-fail")
         found += 1

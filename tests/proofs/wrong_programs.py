@@ -6,11 +6,27 @@ refused, and then its edits:
 """
 
 import os
+import re
 from collections import namedtuple
 
 ROOT = os.path.abspath(os.path.join(os.path.dirname(__file__), "..", ".."))
 
 Wrong = namedtuple("Wrong", "crate edit name kind where")
+
+
+def in_header(pattern):
+    with open(os.path.join(ROOT, "include", "slc1.h")) as header:
+        return set(re.findall(pattern, header.read(), re.M))
+
+
+def calls():
+    """The functions that slc1.h declares: those of the library."""
+    return in_header(r"^\w+ (slc1_\w+)\(")
+
+
+def helpers():
+    """Those that it defines itself."""
+    return in_header(r"^static inline .*?(slc1_\w+)\(")
 
 
 def crates():
