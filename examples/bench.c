@@ -1,47 +1,51 @@
-/* bench: the certificates of sensors in an SLC1 slot cache. A host for slc1.h, in C11 and POSIX: the commands and the
- * certificates. Its files are kept by store.c. */
+/* bench: the certificates of sensors in an SLC1 slot cache. A host for slc1.h, in C11 and POSIX: the commands. Its files
+ * of certificates are read by certificates.c, its caches kept by store.c. */
 #define _POSIX_C_SOURCE 200809L /* under -std=c11 */
 
 #include <errno.h>
 #include <fcntl.h>
 #include <inttypes.h>
 #include <limits.h>
+#include <poll.h>
 #include <stdarg.h>
 #include <stdbool.h>
 #include <stdio.h>
 #include <stdlib.h>
 #include <string.h>
 #include <sys/stat.h>
-#include <sys/types.h>
 #include <unistd.h>
 
+#include "certificates.h"
 #include "slc1.h"
 #include "store.h"
 
-_Static_assert(LLONG_MAX == INT64_MAX, "strtoll judges the range of a revision");
-
 static const char USAGE[] =
-    "usage: bench create FILE                  make an empty cache\n"
-    "       bench load FILE CERTIFICATES.csv   put every certificate into it\n"
-    "       bench get FILE SERIAL              show one certificate\n"
-    "       bench find FILE HALF-A-SERIAL      show every certificate whose serial begins so\n"
-    "       bench list FILE                    show all certificates\n"
-    "       bench check FILE                   make the full check\n"
-    "       bench drop FILE SERIAL             delete one certificate\n"
+    "usage: bench create FILE                       make an empty cache\n"
+    "       bench load FILE CERTIFICATES.csv        put every certificate into it\n"
+    "       bench rebuild FILE CERTIFICATES.csv     make it anew, of these certificates and no other\n"
+    "       bench compare FILE CERTIFICATES.csv     show what differs\n"
+    "       bench get FILE SERIAL                   show one certificate\n"
+    "       bench find FILE HALF-A-SERIAL           show every certificate whose serial begins so\n"
+    "       bench list FILE                         show all certificates, as load reads them\n"
+    "       bench export FILE CERTIFICATES.csv      write them to a new file\n"
+    "       bench check FILE                        make the full check, and compare the checksum\n"
+    "       bench drop FILE SERIAL                  delete one certificate\n"
+    "       bench --help, bench --version\n"
     "\n"
-    "CERTIFICATES.csv has lines serial,revision,gain: a serial of 12 characters, a whole number, and 1 to 20 characters.\n"
+    "Right after load or rebuild, --older takes certificates that are not newer than those in the cache; right after load,\n"
+    "--progress shows how far it is, as on a terminal.\n"
     "\n"
-    "exit status: 0 done or found, 1 needs rebuild, 2 incompatible, 3 invalidated, 4 busy, 5 full, 7 invalid input,\n"
-    "             9 not present, 10 empty file, 64 wrong usage, 74 input or output failed\n";
+    "CERTIFICATES.csv has lines serial,revision,gain, each with a line feed: a serial of 12 characters; a whole number; and\n"
+    "a number of 1 to 20 characters, digits with or without a sign and a point, such as +21.523.\n"
+    "\n"
+    "exit status: 0 done, found or the same, 1 needs rebuild or (compare) not the same, 2 incompatible, 3 invalidated,\n"
+    "             4 busy, 5 full, 7 invalid input, 9 not present, 10 empty file, 64 wrong usage, 74 input or output failed\n";
 
 enum { EXIT_USAGE = 64 };
 
-enum { KEY_SIZE = 12, INDEX_SIZE = 20, SLOT_CAPACITY = 512, USER_VERSION = 1, ORDERED = 0 };
-
-static const slc1_options OPTIONS = {KEY_SIZE, INDEX_SIZE, SLOT_CAPACITY, USER_VERSION, ORDERED, SLC1_NO_WRITER_KNOWN};
-
-enum { REVISION_AT = SLC1_REVISION_AT(KEY_SIZE), INDEX_AT = SLC1_INDEX_AT(KEY_SIZE) };
-enum { RECORD_SIZE = SLC1_RECORD_SIZE(KEY_SIZE, INDEX_SIZE) };
+/* What stands right after the command. */
+enum { OLDER = 1, PROGRESS = 2 };
+static int wanted;
 
 /* Sentences. */
 
@@ -57,25 +61,39 @@ _Noreturn void fail(int status, const char *format, ...)
     exit(status);
 }
 
+_Noreturn void fail_io(const char *path, const char *call)
+{
+    fail(EXIT_IO, "%s: %s: %s", path, call, strerror(errno));
+}
+
 /* What to do about an answer, said of the file. */
 static const char *const SENTENCES[] = {
-    [SLC1_NEEDS_REBUILD] = "needs a rebuild: load the certificates again",
+    [SLC1_NEEDS_REBUILD] = "needs a rebuild: run bench rebuild with all certificates",
     [SLC1_INCOMPATIBLE] = "is incompatible, of another format or with other options: name another, or move this one away",
-    [SLC1_INVALIDATED] = "was given up: load the certificates again",
+    [SLC1_INVALIDATED] = "was given up: run bench rebuild with all certificates",
     [SLC1_BUSY] = "is busy, a writer is active: try again",
-    [SLC1_FULL] = "is full, and deleted certificates keep their slots: move it away, and load all into a new one",
+    [SLC1_FULL] = "is full",
     [SLC1_OUT_OF_ORDER] = "is ordered, and a new serial is below its last: load the certificates in order of their serials",
-    [SLC1_INVALID_INPUT] = "was not looked at, the input is invalid: see the usage",
+    [SLC1_INVALID_INPUT] = "was not looked at, the input is invalid: see bench --help",
     [SLC1_NOT_PRESENT] = "has no certificate of this serial: see whether it is typed rightly, or load its certificate",
     [SLC1_CREATE_IT] = "is an empty file: run bench create",
     [SLC1_TOO_SHORT] = "lists more than there is room for: this is an error of bench",
 };
 
-/* Says what an answer asks for. The answer is the exit status. */
+static _Noreturn void refuse_existing(const char *path)
+{
+    fail(SLC1_INVALID_INPUT, "%s exists: name another file, or move this one away", path);
+}
+
+/* Says what an answer asks for. The answer is the exit status, but for the store's own. */
 static int answered(uint32_t answer, const char *path)
 {
+    if (answer == STORE_FAILED)
+        fail(EXIT_IO, "%s: %s", path, strerror(errno));
+    if (answer == STORE_EXISTS)
+        refuse_existing(path);
     if (answer >= sizeof SENTENCES / sizeof *SENTENCES)
-        fail(EXIT_IO, "%s: the unknown answer %" PRIu32, path, answer);
+        fail(EXIT_IO, "%s %s", path, store_text(answer));
     if (SENTENCES[answer] != NULL)
         fprintf(stderr, "bench: %s %s\n", path, SENTENCES[answer]);
     return (int)answer;
@@ -87,305 +105,457 @@ static void require_done(uint32_t answer, const char *path)
         exit(answered(answer, path));
 }
 
-static uint64_t word_at(const uint8_t *bytes)
+static void warn_of_checksum(const struct store_image *image, const char *path)
 {
-    uint64_t word = 0;
-
-    for (int i = 0; i < 8; i++)
-        word |= (uint64_t)bytes[i] << 8 * i;
-    return word;
+    if (image->checksum == STORE_NO_MARK)
+        fprintf(stderr, "bench: %s has no checksum, a changed gain would not be noticed: load or rebuild adds one\n", path);
+    if (image->checksum == STORE_WRONG)
+        fprintf(stderr, "bench: %s has a wrong checksum: bytes have changed since they were written\n", path);
 }
 
-static void put_word(uint8_t *bytes, uint64_t word)
+/* More serials than slots, or as many as there are slots with the deleted ones. */
+static _Noreturn void refuse_full(const char *path, size_t serials)
 {
-    for (int i = 0; i < 8; i++)
-        bytes[i] = (uint8_t)(word >> 8 * i);
+    if (serials > SLOT_CAPACITY)
+        fail(SLC1_FULL, "%s is full: it has %d slots, and %zu serials are too many by %zu: drop those that are no longer in "
+             "use, or keep some in a second cache", path, SLOT_CAPACITY, serials, serials - SLOT_CAPACITY);
+    fail(SLC1_FULL, "%s is full: deleted certificates keep their slots. To free these, run bench export %s ALL.csv and bench "
+         "rebuild %s ALL.csv, and then load again", path, path, path);
+}
+
+static const char *plural(uint64_t count)
+{
+    return count == 1 ? "" : "s";
 }
 
 /* Certificates shown. */
 
-/* Bytes as text. In a damaged image they can be any: what would not print is spelled out. */
-static void show_text(const uint8_t *bytes, size_t length)
+/* Bytes as text. In a damaged image they can be any: what would not print, or not be read back, is spelled out. */
+static void show_text(FILE *out, const uint8_t *bytes, size_t length)
 {
     for (size_t i = 0; i < length; i++) {
-        if (bytes[i] > ' ' && bytes[i] <= '~')
-            putchar(bytes[i]);
+        if (bytes[i] > ' ' && bytes[i] <= '~' && bytes[i] != ',')
+            putc(bytes[i], out);
         else
-            printf("\\x%02x", bytes[i]);
+            fprintf(out, "\\x%02x", bytes[i]);
     }
 }
 
-/* A slot without a line feed. All of it is read in the one slot, its serial too. */
-static void show_slot(const struct store_image *image, uint64_t number)
+/* The parts of a slot or a record, as a line or as a sentence. All of it is read in the one slot, its serial too. */
+static void show_parts(FILE *out, const uint8_t *slot, const char *between, const char *before_gain)
 {
-    const uint8_t *slot = image->bytes + slc1_key_offset(SLC1_OPTIONS(&image->options), number) - SLC1_KEY_AT;
     size_t gain_length = INDEX_SIZE;
 
     while (gain_length > 0 && slot[INDEX_AT + gain_length - 1] == 0)
         gain_length--;
-    show_text(slot + SLC1_KEY_AT, KEY_SIZE);
-    printf(" slot %" PRIu64 " revision %" PRId64 " gain ", number, (int64_t)word_at(slot + REVISION_AT));
-    show_text(slot + INDEX_AT, gain_length);
+    show_text(out, slot + SLC1_KEY_AT, KEY_SIZE);
+    fprintf(out, "%s%" PRId64 "%s", between, (int64_t)slc1_word_at(slot + REVISION_AT), before_gain);
+    show_text(out, slot + INDEX_AT, gain_length);
 }
 
-static void show_slots(const struct store_image *image, const uint32_t *numbers, uint64_t count)
+/* As a line of a file of certificates. */
+static void show_line(FILE *out, const uint8_t *slot)
 {
-    for (uint64_t i = 0; i < count; i++) {
-        show_slot(image, numbers[i]);
-        putchar('\n');
-    }
+    show_parts(out, slot, ",", ",");
+    putc('\n', out);
 }
 
-/* A serial of another length is refused, and never cut or padded. */
-static void require_serial(const char *where, const char *serial)
+static const uint8_t *slot_in(const struct store_image *image, uint64_t number)
 {
-    size_t length = strlen(serial);
+    return image->bytes + slc1_key_offset(SLC1_OPTIONS(&image->options), number) - SLC1_KEY_AT;
+}
 
-    if (length != KEY_SIZE)
-        fail(SLC1_INVALID_INPUT, "%sserial '%s' has %zu character%s, not %d", where, serial, length, length == 1 ? "" : "s",
-             KEY_SIZE);
+/* As a sentence, without a line feed. */
+static void show_slot(const struct store_image *image, uint64_t number)
+{
+    char between[40];
+
+    snprintf(between, sizeof between, " slot %" PRIu64 " revision ", number);
+    show_parts(stdout, slot_in(image, number), between, " gain ");
+}
+
+/* Caches read. */
+
+/* Copies a cache. What the store can't do ends the program; other answers are handed back. */
+static uint32_t read_cache(struct store_reader *reader, const char *path, int flags)
+{
+    uint32_t answer;
+
+    require_done(store_open_reader(reader, path, &OPTIONS, flags), path);
+    answer = store_read(reader);
+    if (answer >= STORE_FAILED)
+        exit(answered(answer, path));
+    warn_of_checksum(&reader->image, path);
+    return answer;
+}
+
+/* All live slots, in order. */
+struct slots {
+    uint64_t count;
+    uint32_t numbers[SLOT_CAPACITY];
+};
+
+static uint32_t scan(const struct store_image *image, struct slots *slots)
+{
+    uint64_t results[SLC1_LISTING_RESULTS];
+    uint32_t answer = slc1_scan_results(
+        STORE_LENT(image), 0, SLOT_CAPACITY, slots->numbers, SLOT_CAPACITY, results, SLC1_LISTING_RESULTS);
+
+    slots->count = results[2];
+    return answer;
 }
 
 static int get(char **words)
 {
-    const uint8_t *serial = (const uint8_t *)words[1];
-    struct store_image image;
+    struct store_reader reader;
     uint32_t answer;
+    uint64_t slot, buckets;
 
     require_serial("", words[1]);
-    image = store_read(words[0], &OPTIONS);
-    answer = slc1_lookup(STORE_LENT(&image), serial, KEY_SIZE);
-    if (answer == SLC1_DONE) {
-        show_slot(&image, slc1_lookup_slot(STORE_LENT(&image), serial, KEY_SIZE));
-        printf(" buckets %" PRIu64 "\n", slc1_lookup_buckets(STORE_LENT(&image), serial, KEY_SIZE));
+    answer = read_cache(&reader, words[0], 0);
+    if (answer == SLC1_DONE &&
+        slc1_get(reader.image.bytes, reader.image.length, &reader.image.options, (const uint8_t *)words[1], KEY_SIZE, &answer,
+                 &slot, NULL, &buckets) != NULL) {
+        show_slot(&reader.image, slot);
+        printf(" buckets %" PRIu64 "\n", buckets);
     }
-    free(image.bytes);
+    store_close_reader(&reader);
     return answered(answer, words[0]);
 }
 
 static int find(char **words)
 {
-    const uint8_t *half = (const uint8_t *)words[1];
     size_t length = strlen(words[1]);
+    uint64_t results[SLC1_LISTING_RESULTS] = {0};
     uint32_t numbers[SLOT_CAPACITY], answer;
-    struct store_image image;
+    struct store_reader reader;
 
     if (length < 1 || length > KEY_SIZE)
         fail(SLC1_INVALID_INPUT, "'%s' has %zu characters: half a serial has 1 to %d", words[1], length, KEY_SIZE);
-    image = store_read(words[0], &OPTIONS);
-    answer = slc1_match(STORE_LENT(&image), 0, 8 * length, half, length, 0, SLOT_CAPACITY, numbers, SLOT_CAPACITY);
-    if (answer == SLC1_DONE) {
-        uint64_t count =
-            slc1_match_written(STORE_LENT(&image), 0, 8 * length, half, length, 0, SLOT_CAPACITY, numbers, SLOT_CAPACITY);
-
-        show_slots(&image, numbers, count);
-        if (count == 0)
-            fprintf(stderr, "bench: no serial begins with '%s'\n", words[1]);
+    answer = read_cache(&reader, words[0], 0);
+    if (answer == SLC1_DONE)
+        answer = slc1_match_results(STORE_LENT(&reader.image), 0, 8 * length, (const uint8_t *)words[1], length, 0,
+                                    SLOT_CAPACITY, numbers, SLOT_CAPACITY, results, SLC1_LISTING_RESULTS);
+    for (uint64_t i = 0; i < results[2]; i++) {
+        show_slot(&reader.image, numbers[i]);
+        putchar('\n');
     }
-    free(image.bytes);
+    store_close_reader(&reader);
+    if (answer == SLC1_DONE && results[2] == 0)
+        fail(SLC1_NOT_PRESENT, "no serial begins with '%s'", words[1]);
     return answered(answer, words[0]);
+}
+
+static void show_lines(FILE *out, const struct store_image *image, const struct slots *slots)
+{
+    fprintf(out, "%s\n", FIRST_LINE);
+    for (uint64_t i = 0; i < slots->count; i++)
+        show_line(out, slot_in(image, slots->numbers[i]));
 }
 
 static int list(char **words)
 {
-    uint32_t numbers[SLOT_CAPACITY];
-    struct store_image image = store_read(words[0], &OPTIONS);
-    uint32_t answer = slc1_scan(STORE_LENT(&image), 0, SLOT_CAPACITY, numbers, SLOT_CAPACITY);
+    struct store_reader reader;
+    struct slots slots;
+    uint32_t answer = read_cache(&reader, words[0], 0);
 
     if (answer == SLC1_DONE)
-        show_slots(&image, numbers, slc1_scan_written(STORE_LENT(&image), 0, SLOT_CAPACITY, numbers, SLOT_CAPACITY));
-    free(image.bytes);
+        answer = scan(&reader.image, &slots);
+    if (answer == SLC1_DONE)
+        show_lines(stdout, &reader.image, &slots);
+    store_close_reader(&reader);
+    return answered(answer, words[0]);
+}
+
+/* Whether the lines, written to a new file, are on the disk. */
+static bool write_lines(const char *path, const struct store_image *image, const struct slots *slots)
+{
+    FILE *file = fopen(path, "wx");
+    bool done;
+
+    if (file == NULL)
+        return false;
+    show_lines(file, image, slots);
+    done = fflush(file) == 0 && !ferror(file) && fsync(fileno(file)) == 0;
+    return fclose(file) == 0 && done;
+}
+
+/* The file is there whole or not at all: half of one could be taken for all certificates. */
+static void write_file(const char *path, const struct store_image *image, const struct slots *slots)
+{
+    char new_path[PATH_MAX];
+    struct stat status;
+    int kept;
+
+    if (lstat(path, &status) == 0)
+        refuse_existing(path);
+    snprintf(new_path, sizeof new_path, "%s.%ld", path, (long)getpid());
+    if (write_lines(new_path, image, slots) && rename(new_path, path) == 0)
+        return;
+    kept = errno;
+    unlink(new_path);
+    errno = kept;
+    fail_io(path, "write");
+}
+
+static int export(char **words)
+{
+    struct store_reader reader;
+    struct slots slots;
+    uint32_t answer = read_cache(&reader, words[0], 0);
+
+    if (answer == SLC1_DONE)
+        answer = scan(&reader.image, &slots);
+    if (answer == SLC1_DONE) {
+        write_file(words[1], &reader.image, &slots);
+        printf("%" PRIu64 " certificate%s written to %s\n", slots.count, plural(slots.count), words[1]);
+    }
+    store_close_reader(&reader);
     return answered(answer, words[0]);
 }
 
 static int check(char **words)
 {
-    struct store_image image = store_read(words[0], &OPTIONS);
-    uint32_t answer = slc1_full_check(STORE_LENT(&image));
+    static const char *const CHECKSUMS[] = {
+        [STORE_UNCHECKED] = "unknown", [STORE_NO_MARK] = "none", [STORE_RIGHT] = "right", [STORE_WRONG] = "wrong"};
+    struct store_reader reader;
+    uint64_t results[SLC1_FULL_CHECK_RESULTS];
+    uint32_t answer = read_cache(&reader, words[0], STORE_VERIFY);
 
-    printf("answer %" PRIu32 " live %" PRIu64 " tombstones %" PRIu64 " probes %" PRIu64 "\n", answer,
-           slc1_full_check_live(STORE_LENT(&image)), slc1_full_check_tombstones(STORE_LENT(&image)),
-           slc1_full_check_probes(STORE_LENT(&image)));
-    free(image.bytes);
+    slc1_full_check_results(STORE_LENT(&reader.image), results, SLC1_FULL_CHECK_RESULTS);
+    printf("answer %" PRIu64 " live %" PRIu64 " tombstones %" PRIu64 " probes %" PRIu64 " checksum %s\n", results[0],
+           results[1], results[2], results[3], CHECKSUMS[reader.image.checksum]);
+    if (results[0] != SLC1_DONE)
+        answer = (uint32_t)results[0];
+    store_close_reader(&reader);
     return answered(answer, words[0]);
 }
 
-/* Certificates read. */
+/* Revision and gain stand side by side. */
+enum { SHOWN_SIZE = INDEX_AT + INDEX_SIZE - REVISION_AT };
 
-/* A further record, all zero. */
-static uint8_t *add_record(struct store_records *records)
+/* Whether the cache has this very certificate. Where it has not, both are shown. */
+static bool is_there(const struct store_image *cache, const uint8_t *record)
 {
-    if (records->count % SLC1_BATCH_LIMIT == 0) {
-        records->bytes = realloc(records->bytes, (records->count + SLC1_BATCH_LIMIT) * RECORD_SIZE);
-        if (records->bytes == NULL)
-            fail(EXIT_IO, "out of memory");
+    uint64_t slot;
+
+    if (slc1_get(cache->bytes, cache->length, &cache->options, record + SLC1_KEY_AT, KEY_SIZE, NULL, &slot, NULL, NULL) !=
+        NULL) {
+        if (memcmp(slot_in(cache, slot) + REVISION_AT, record + REVISION_AT, SHOWN_SIZE) == 0)
+            return true;
+        fputs("- ", stdout);
+        show_line(stdout, slot_in(cache, slot));
     }
-    return memset(records->bytes + records->count++ * RECORD_SIZE, 0, RECORD_SIZE);
+    fputs("+ ", stdout);
+    show_line(stdout, record);
+    return false;
 }
 
-/* A line without its end becomes a put. `where` begins each complaint. */
-static void read_certificate(struct store_records *records, char *line, const char *where)
+/* The number of serials that differ, each shown. */
+static size_t show_differences(const struct store_image *cache, const struct slots *slots, const struct certificates *all)
 {
-    uint8_t *record = add_record(records);
-    char *revision = strchr(line, ',');
-    char *gain = revision == NULL ? NULL : strchr(revision + 1, ',');
-    char *end;
-    long long number;
+    size_t count = 0;
 
-    if (gain == NULL || strchr(gain + 1, ',') != NULL)
-        fail(SLC1_INVALID_INPUT, "%s'%s' is not serial,revision,gain", where, line);
-    *revision++ = '\0';
-    *gain++ = '\0';
-    require_serial(where, line);
-    errno = 0;
-    number = strtoll(revision, &end, 10);
-    if (end == revision || *end != '\0' || errno != 0)
-        fail(SLC1_INVALID_INPUT, "%srevision '%s' is not a whole number of 64 bits", where, revision);
-    if (strlen(gain) < 1 || strlen(gain) > INDEX_SIZE)
-        fail(SLC1_INVALID_INPUT, "%sgain '%s' has %zu characters, not 1 to %d", where, gain, strlen(gain), INDEX_SIZE);
-    put_word(record, 1);
-    memcpy(record + SLC1_KEY_AT, line, KEY_SIZE);
-    put_word(record + REVISION_AT, (uint64_t)number);
-    memcpy(record + INDEX_AT, gain, strlen(gain));
-}
+    for (size_t i = 0; i < all->records.count; i++)
+        count += all->lines[i].decides && !is_there(cache, all->records.bytes + i * RECORD_SIZE);
+    for (uint64_t i = 0; i < slots->count; i++) {
+        const uint8_t *slot = slot_in(cache, slots->numbers[i]);
 
-/* The length of a line without its end, which is cut off. A byte that would not print is refused: what is shown later is
- * then what stands in the file of certificates. */
-static size_t cut_line(char *line, size_t length, const char *where)
-{
-    if (length > 0 && line[length - 1] == '\n')
-        length--;
-    if (length > 0 && line[length - 1] == '\r')
-        length--;
-    for (size_t i = 0; i < length; i++) {
-        if (line[i] <= ' ' || line[i] > '~')
-            fail(SLC1_INVALID_INPUT, "%scharacter %zu is a blank or does not print", where, i + 1);
+        if (!certificates_have(all, slot + SLC1_KEY_AT)) {
+            fputs("- ", stdout);
+            show_line(stdout, slot);
+            count++;
+        }
     }
-    line[length] = '\0';
-    return length;
+    return count;
 }
 
-/* All certificates of a file, judged before anything is written. */
-static struct store_records read_certificates(const char *path)
+static int compare(char **words)
 {
-    struct store_records records = {NULL, 0};
-    FILE *file = fopen(path, "r");
-    char *line = NULL, where[40];
-    size_t room = 0, number = 0;
-    ssize_t length;
+    struct certificates all = certificates_read(words[1]);
+    struct store_reader reader;
+    struct slots slots;
+    uint32_t answer = read_cache(&reader, words[0], 0);
+    size_t count = 0;
 
-    if (file == NULL)
-        fail_io(path, "open");
-    errno = 0;
-    while ((length = getline(&line, &room, file)) >= 0) {
-        snprintf(where, sizeof where, "line %zu: ", ++number);
-        if (cut_line(line, (size_t)length, where) > 0 && !(number == 1 && strcmp(line, "serial,revision,gain") == 0))
-            read_certificate(&records, line, where);
-        errno = 0;
-    }
-    if (!feof(file))
-        fail_io(path, "read");
-    if (records.count == 0)
-        fail(SLC1_INVALID_INPUT, "%s has no certificates", path);
-    free(line);
-    fclose(file);
-    return records;
+    if (answer == SLC1_DONE)
+        answer = slc1_full_check(STORE_LENT(&reader.image));
+    if (answer == SLC1_DONE)
+        answer = scan(&reader.image, &slots);
+    if (answer == SLC1_DONE)
+        count = show_differences(&reader.image, &slots, &all);
+    store_close_reader(&reader);
+    certificates_free(&all);
+    return count > 0 ? EXIT_FAILURE : answered(answer, words[0]);
 }
 
-/* Certificates written. */
+/* Caches written. */
 
-static _Noreturn void refuse_existing(const char *path)
-{
-    fail(SLC1_INVALID_INPUT, "%s exists: name another file, or move this one away", path);
-}
-
-/* A file that is there is refused before it is opened; and once locked, since another process may have been quicker. */
 static int create(char **words)
 {
-    struct store_records none = {NULL, 0};
-    struct stat status;
-    struct store_writer writer;
-
-    if (stat(words[0], &status) == 0 && status.st_size > 0)
-        refuse_existing(words[0]);
-    require_done(store_open(&writer, words[0], &OPTIONS, O_CREAT), words[0]);
-    if (writer.image.length > 0)
-        refuse_existing(words[0]);
-    require_done(store_rebuild(&writer, &none), words[0]);
-    store_close(&writer);
+    require_done(store_create(words[0], &OPTIONS), words[0]);
     printf("%s created, %d slots\n", words[0], SLOT_CAPACITY);
     return SLC1_DONE;
 }
 
+/* A line at a time, and none where it would have to wait, or where nobody reads: the cache is not whole meanwhile. */
 static void show_progress(size_t done, size_t all)
 {
     bool terminal = isatty(STDERR_FILENO);
+    struct pollfd err = {STDERR_FILENO, POLLOUT, 0};
 
-    if (all > SLC1_BATCH_LIMIT)
+    if (all > SLC1_BATCH_LIMIT && poll(&err, 1, 0) == 1 && err.revents == POLLOUT)
         fprintf(stderr, "%s%zu of %zu certificates%s", terminal ? "\r" : "", done, all, terminal && done < all ? "" : "\n");
 }
 
-/* The certificates are the truth, so what needs a rebuild is built from them. */
+static void open_cache(struct store_writer *writer, const char *path)
+{
+    require_done(store_open_writer(writer, path, &OPTIONS), path);
+    warn_of_checksum(&writer->image, path);
+}
+
+/* The certificates of a file, and the lock of a cache. */
+static struct certificates prepare(struct store_writer *writer, char **words)
+{
+    struct certificates all = certificates_read(words[1]);
+
+    if (!(wanted & OLDER))
+        certificates_refuse_older_lines(&all);
+    open_cache(writer, words[0]);
+    if (!(wanted & OLDER) && store_judge(writer) == SLC1_DONE)
+        certificates_refuse_older(&all, &writer->image, words[0]);
+    return all;
+}
+
+static uint64_t live(const struct store_writer *writer)
+{
+    return slc1_full_check_live(STORE_LENT(&writer->image));
+}
+
 static int load(char **words)
 {
-    struct store_records records = read_certificates(words[1]);
     struct store_writer writer;
+    struct certificates all = prepare(&writer, words);
     uint32_t answer;
 
-    require_done(store_open(&writer, words[0], &OPTIONS, 0), words[0]);
-    writer.progress = show_progress;
-    answer = store_update(&writer, &records);
-    if (answer == SLC1_NEEDS_REBUILD || answer == SLC1_INVALIDATED || answer == SLC1_CREATE_IT) {
-        fprintf(stderr, "bench: %s needs a rebuild: beginning from an empty image\n", words[0]);
-        answer = store_rebuild(&writer, &records);
-    }
+    if (wanted & PROGRESS || isatty(STDERR_FILENO))
+        writer.progress = show_progress;
+    answer = store_update(&writer, &all.records);
+    if (answer == SLC1_FULL)
+        refuse_full(words[0], live(&writer) + certificates_count(&all, &writer.image));
     if (answer == SLC1_DONE)
-        printf("%zu certificate%s loaded, %" PRIu64 " live\n", records.count, records.count == 1 ? "" : "s",
-               slc1_full_check_live(STORE_LENT(&writer.image)));
-    store_close(&writer);
-    free(records.bytes);
+        printf("%zu certificate%s loaded, %" PRIu64 " live\n", all.records.count, plural(all.records.count), live(&writer));
+    store_close_writer(&writer);
+    certificates_free(&all);
+    return answered(answer, words[0]);
+}
+
+static int rebuild(char **words)
+{
+    struct store_writer writer;
+    struct certificates all = prepare(&writer, words);
+    size_t count = certificates_count(&all, NULL);
+    uint32_t answer = store_rebuild(&writer, &all.records);
+
+    if (answer == SLC1_FULL)
+        refuse_full(words[0], count);
+    if (answer == SLC1_DONE)
+        printf("%s rebuilt: %zu certificate%s\n", words[0], count, plural(count));
+    store_close_writer(&writer);
+    certificates_free(&all);
     return answered(answer, words[0]);
 }
 
 static int drop(char **words)
 {
-    struct store_records records = {NULL, 0};
+    const uint8_t *serial = (const uint8_t *)words[1];
+    uint8_t record[RECORD_SIZE];
+    const struct store_records records = {record, 1};
     struct store_writer writer;
     uint32_t answer;
 
     require_serial("", words[1]);
-    memcpy(add_record(&records) + SLC1_KEY_AT, words[1], KEY_SIZE); /* meta 0: a delete */
-    require_done(store_open(&writer, words[0], &OPTIONS, 0), words[0]);
-    answer = slc1_lookup(STORE_LENT(&writer.image), (const uint8_t *)words[1], KEY_SIZE);
+    slc1_delete_record(record, sizeof record, &OPTIONS, serial, KEY_SIZE);
+    open_cache(&writer, words[0]);
+    answer = store_judge(&writer);
+    if (answer == SLC1_DONE)
+        answer = slc1_lookup(STORE_LENT(&writer.image), serial, KEY_SIZE);
     if (answer == SLC1_DONE)
         answer = store_update(&writer, &records);
     if (answer == SLC1_DONE)
-        printf("%s dropped, %" PRIu64 " live\n", words[1], slc1_full_check_live(STORE_LENT(&writer.image)));
-    store_close(&writer);
-    free(records.bytes);
+        printf("%s dropped, %" PRIu64 " live\n", words[1], live(&writer));
+    store_close_writer(&writer);
     return answered(answer, words[0]);
+}
+
+/* The program. */
+
+/* Where one of the three standard descriptors is closed, a cache could be opened as it, and what is printed go there.
+ * Each is then opened on nothing, so that its use still fails. */
+static void open_standard_descriptors(void)
+{
+    for (int file = STDIN_FILENO; file <= STDERR_FILENO; file++) {
+        if (fcntl(file, F_GETFD) < 0 && open("/dev/null", file == STDIN_FILENO ? O_WRONLY : O_RDONLY) != file)
+            _exit(EXIT_IO);
+    }
 }
 
 static const struct command {
     const char *name;
     int words;
+    int options;
     int (*run)(char **words);
 } COMMANDS[] = {
-    {"create", 1, create}, {"load", 2, load}, {"get", 2, get}, {"find", 2, find},
-    {"list", 1, list},     {"check", 1, check}, {"drop", 2, drop},
+    {"create", 1, 0, create}, {"load", 2, OLDER | PROGRESS, load}, {"rebuild", 2, OLDER, rebuild}, {"compare", 2, 0, compare},
+    {"get", 2, 0, get},       {"find", 2, 0, find},                {"list", 1, 0, list},           {"export", 2, 0, export},
+    {"check", 1, 0, check},   {"drop", 2, 0, drop},
 };
 
-int main(int count, char **words)
+/* Whether a word is an option of the command; it is then wanted. */
+static bool is_option(const struct command *command, const char *word)
 {
-    for (size_t i = 0; i < sizeof COMMANDS / sizeof *COMMANDS; i++) {
-        if (count == 2 + COMMANDS[i].words && strcmp(words[1], COMMANDS[i].name) == 0) {
-            int status = COMMANDS[i].run(words + 2);
+    int option = strcmp(word, "--older") == 0 ? OLDER : strcmp(word, "--progress") == 0 ? PROGRESS : 0;
 
-            if (fflush(stdout) != 0 || ferror(stdout))
-                fail_io("standard output", "write");
-            return status;
-        }
+    wanted |= option & command->options;
+    return option & command->options;
+}
+
+/* Runs a command with the words behind it, ended by NULL. */
+static int run(const struct command *command, char **words)
+{
+    int count = 0;
+
+    while (*words != NULL && is_option(command, *words))
+        words++;
+    while (words[count] != NULL)
+        count++;
+    if (count == command->words && strncmp(*words, "--", 2) != 0)
+        return command->run(words);
+    fputs(USAGE, stderr);
+    return EXIT_USAGE;
+}
+
+static int run_words(char **words)
+{
+    if (words[0] != NULL && words[1] == NULL && strcmp(words[0], "--help") == 0)
+        return fputs(USAGE, stdout) == EOF;
+    if (words[0] != NULL && words[1] == NULL && strcmp(words[0], "--version") == 0)
+        return puts("bench " SLC1_VERSION) == EOF;
+    for (size_t i = 0; words[0] != NULL && i < sizeof COMMANDS / sizeof *COMMANDS; i++) {
+        if (strcmp(words[0], COMMANDS[i].name) == 0)
+            return run(&COMMANDS[i], words + 1);
     }
     fputs(USAGE, stderr);
     return EXIT_USAGE;
+}
+
+int main(int count, char **words)
+{
+    int status;
+
+    open_standard_descriptors();
+    status = run_words(words + (count > 0));
+    if (fflush(stdout) != 0 || ferror(stdout))
+        fail_io("standard output", "write");
+    return status;
 }

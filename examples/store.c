@@ -4,13 +4,13 @@
 #include <errno.h>
 #include <fcntl.h>
 #include <limits.h>
+#include <signal.h>
 #include <stdatomic.h>
 #include <stdbool.h>
 #include <stdio.h>
 #include <stdlib.h>
 #include <string.h>
 #include <sys/file.h>
-#include <sys/mman.h>
 #include <sys/stat.h>
 #include <sys/types.h>
 #include <time.h>
@@ -18,26 +18,25 @@
 
 #include "store.h"
 
-_Static_assert(ATOMIC_LLONG_LOCK_FREE == 2, "a reader loads the generation from a read-only mapping");
-
 enum { WORD = 8 };
 
 /* A reader waits a quarter of a second for the end of a commit, a writer two seconds for readers and writers. */
 enum { READ_TRIES = 250, LOCK_TRIES = 2000, PAUSE_NANOSECONDS = 1000000 };
 
-_Noreturn void fail_io(const char *path, const char *call)
+const char *store_text(uint32_t answer)
 {
-    fail(EXIT_IO, "%s: %s: %s", path, call, strerror(errno));
+    switch (answer) {
+    case STORE_FAILED: return "a call of the system failed";
+    case STORE_NOT_REGULAR: return "is not a regular file";
+    case STORE_EXISTS: return "exists, and is not empty";
+    case STORE_HARD_LINKS: return "has other names (hard links), which a rebuild would leave with the old bytes";
+    case STORE_IN_THE_WAY: return "can't be rebuilt: what has its name with .new is not what a rebuild left, move it away";
+    case STORE_OTHER_OWNER: return "belongs to another user, to whom a rebuild can't give the new file";
+    default: return slc1_text(answer);
+    }
 }
 
-static void *allocate(size_t size)
-{
-    void *room = calloc(1, size);
-
-    if (room == NULL)
-        fail(EXIT_IO, "out of memory");
-    return room;
-}
+/* Images. */
 
 static size_t size_of(const struct store_image *image)
 {
@@ -45,266 +44,445 @@ static size_t size_of(const struct store_image *image)
 }
 
 /* Room for a whole image, of length 0 until it is filled: the pointer that is lent is never NULL. */
-static struct store_image new_image(const slc1_options *options)
+static uint32_t new_image(struct store_image *image, const slc1_options *options)
 {
-    struct store_image image = {NULL, 0, *options};
-
-    image.options.role = SLC1_NO_WRITER_KNOWN;
-    image.bytes = allocate(size_of(&image));
-    return image;
+    *image = (struct store_image){NULL, 0, *options, STORE_UNCHECKED};
+    image->options.role = SLC1_NO_WRITER_KNOWN;
+    if (size_of(image) == 0)
+        return SLC1_INVALID_INPUT;
+    image->bytes = calloc(1, size_of(image));
+    return image->bytes == NULL ? STORE_FAILED : SLC1_DONE;
 }
 
-/* Files. */
+/* The same bytes under another role. */
+static struct store_image under(const struct store_image *image, uint64_t role)
+{
+    struct store_image other = *image;
+
+    other.options.role = role;
+    return other;
+}
+
+/* The checksum. */
+
+/* At the start of the user data, before the checksum. */
+static const uint8_t MARK[WORD] = {'s', 'l', 'o', 't', 's', 'C', 'R', 'C'};
+
+static uint64_t checksum_of(const struct store_image *image)
+{
+    return slc1_crc32c(image->bytes + SLC1_HEADER_SIZE, size_of(image) - SLC1_HEADER_SIZE);
+}
+
+/* What is known of the checksum, which holds for CLEAN images: those that pass under role 0. */
+static int judge_checksum(const struct store_image *image, int flags)
+{
+    struct store_image alone = under(image, SLC1_NO_WRITER_KNOWN);
+    uint8_t data[SLC1_USER_DATA_SIZE];
+
+    if (slc1_user_data(STORE_LENT(&alone), data, sizeof data) != SLC1_DONE)
+        return STORE_UNCHECKED;
+    if (memcmp(data, MARK, WORD) != 0)
+        return STORE_NO_MARK;
+    if (size_of(image) > STORE_SMALL && !(flags & STORE_VERIFY))
+        return STORE_UNCHECKED;
+    return slc1_word_at(data + WORD) == checksum_of(image) ? STORE_RIGHT : STORE_WRONG;
+}
+
+static uint32_t renew_checksum(struct store_image *image)
+{
+    uint8_t data[SLC1_USER_DATA_SIZE];
+    uint64_t flags = slc1_user_flags(STORE_LENT(image));
+    uint32_t answer = slc1_user_data(STORE_LENT(image), data, sizeof data);
+
+    if (answer != SLC1_DONE)
+        return answer;
+    memcpy(data, MARK, WORD);
+    slc1_put_word(data + WORD, checksum_of(image));
+    return slc1_set_user_fields(STORE_LENT(image), flags, data, sizeof data);
+}
+
+/* Files. In what cleans up, errno stays what it was. */
 
 static void pause_briefly(void)
 {
     nanosleep(&(struct timespec){0, PAUSE_NANOSECONDS}, NULL);
 }
 
-static struct stat status_of(int file, const char *path)
+static void close_file(int file)
 {
+    int kept = errno;
+
+    if (file >= 0)
+        close(file);
+    errno = kept;
+}
+
+static void remove_file(const char *path)
+{
+    int kept = errno;
+
+    unlink(path);
+    errno = kept;
+}
+
+static void remove_empty(const char *path)
+{
+    int kept = errno;
     struct stat status;
 
-    if (fstat(file, &status) != 0)
-        fail_io(path, "fstat");
-    return status;
+    if (stat(path, &status) == 0 && status.st_size == 0)
+        unlink(path);
+    errno = kept;
 }
 
-static int open_file(const char *path, int flags)
+/* Opens a regular file, and waits for nobody: a pipe would. */
+static uint32_t open_file(int *file, const char *path, int flags, mode_t mode)
 {
-    int file = open(path, flags | O_CLOEXEC, 0666);
+    struct stat status;
+    uint32_t answer = SLC1_DONE;
 
-    if (file < 0)
-        fail_io(path, "open");
-    if (!S_ISREG(status_of(file, path).st_mode))
-        fail(EXIT_IO, "%s is not a regular file", path);
-    return file;
+    *file = open(path, flags | O_CLOEXEC | O_NONBLOCK | O_NOCTTY, mode);
+    if (*file < 0)
+        return errno == EISDIR || errno == ENXIO ? STORE_NOT_REGULAR : STORE_FAILED;
+    if (fstat(*file, &status) != 0)
+        answer = STORE_FAILED;
+    else if (!S_ISREG(status.st_mode))
+        answer = STORE_NOT_REGULAR;
+    if (answer != SLC1_DONE)
+        close_file(*file);
+    return answer;
 }
 
-/* False where another process holds a lock that forbids this one. */
-static bool lock(int file, const char *path, int how)
+/* SLC1_BUSY where another process holds a lock that forbids this one. */
+static uint32_t lock(int file, int how)
 {
     if (flock(file, how | LOCK_NB) == 0)
-        return true;
-    if (errno != EWOULDBLOCK)
-        fail_io(path, "flock");
-    return false;
+        return SLC1_DONE;
+    return errno == EWOULDBLOCK ? SLC1_BUSY : STORE_FAILED;
 }
 
-/* Readers. */
-
-/* In a shorter file the rest of the page is zeros. */
-static uint64_t generation_in(const uint8_t *mapped)
+static bool is_same_file(const struct stat *one, const struct stat *other)
 {
-    const void *generation = mapped + SLC1_GENERATION_AT;
-
-    return atomic_load_explicit((const _Atomic uint64_t *)generation, memory_order_acquire);
+    return one->st_dev == other->st_dev && one->st_ino == other->st_ino;
 }
 
-/* Copies the file. Where the generation moves meanwhile, parts of the copy may come from different commits: it gets an
- * odd one, as within a commit, and the library refuses it. */
-static void copy_file(struct store_image *image, int file, const char *path)
+/* The number of bytes read, fewer only where the file ends; -1 where it fails. */
+static ssize_t read_at(int file, uint8_t *bytes, size_t length, size_t offset)
 {
-    void *mapped = mmap(NULL, image->length, PROT_READ, MAP_SHARED, file, 0);
-    uint64_t before;
+    size_t done = 0;
 
-    if (mapped == MAP_FAILED)
-        fail_io(path, "mmap");
-    before = generation_in(mapped);
-    memcpy(image->bytes, mapped, image->length);
-    atomic_thread_fence(memory_order_acquire);
-    if (generation_in(mapped) != before)
-        image->bytes[SLC1_GENERATION_AT] |= 1;
-    munmap(mapped, image->length);
-}
+    while (done < length) {
+        ssize_t got = pread(file, bytes + done, length - done, (off_t)(offset + done));
 
-/* One try to read the file, which is opened anew each time: a rebuild may have replaced it, though none shortens it.
- * The role is true of the bytes copied, so the lock is given back with the file: no writer waits for what is done with
- * them. */
-static void try_read(struct store_image *image, const char *path)
-{
-    int file = open_file(path, O_RDONLY);
-    bool alone = lock(file, path, LOCK_SH);
-    uintmax_t length = (uintmax_t)status_of(file, path).st_size;
-
-    image->options.role = alone ? SLC1_NO_WRITER_KNOWN : SLC1_ANOTHER_WRITER;
-    image->length = length < size_of(image) ? (size_t)length : size_of(image);
-    if (image->length > 0) /* nothing cannot be mapped */
-        copy_file(image, file, path);
-    close(file);
-}
-
-/* Whether a writer may soon make an image usable. Beside one, 4 is a commit under way, and 1 may be the CRC of a begin
- * or checkpoint without its state, since these two leave the generation alone. */
-static bool may_soon_pass(const struct store_image *image)
-{
-    uint32_t answer = slc1_open_check(STORE_LENT(image));
-
-    return image->options.role == SLC1_ANOTHER_WRITER && (answer == SLC1_BUSY || answer == SLC1_NEEDS_REBUILD);
-}
-
-struct store_image store_read(const char *path, const slc1_options *options)
-{
-    struct store_image image = new_image(options);
-
-    try_read(&image, path);
-    for (int tries = 1; tries < READ_TRIES && may_soon_pass(&image); tries++) {
-        pause_briefly();
-        try_read(&image, path);
+        if (got < 0 && errno != EINTR)
+            return -1;
+        if (got == 0)
+            break;
+        if (got > 0)
+            done += (size_t)got;
     }
-    return image;
+    return (ssize_t)done;
 }
 
-/* Publishing. */
-
-static void write_at(const struct store_writer *writer, const uint8_t *bytes, size_t length, size_t offset)
+static uint32_t write_at(int file, const uint8_t *bytes, size_t length, size_t offset)
 {
     while (length > 0) {
-        ssize_t written = pwrite(writer->file, bytes, length, (off_t)offset);
+        ssize_t written = pwrite(file, bytes, length, (off_t)offset);
 
         if (written < 0 && errno != EINTR)
-            fail_io(writer->path, "pwrite");
+            return STORE_FAILED;
         if (written > 0) {
             bytes += written;
             length -= (size_t)written;
             offset += (size_t)written;
         }
     }
+    return SLC1_DONE;
 }
 
-static void sync_data(const struct store_writer *writer)
+/* Readers. */
+
+/* Copies the file, as much of it as can be read. Where the generation moves meanwhile, parts of the copy may come from
+ * different commits: it gets an odd one, as within a commit, and the library refuses it. */
+static uint32_t copy_file(struct store_image *image, int file)
 {
-    if (fdatasync(writer->file) != 0)
-        fail_io(writer->path, "fdatasync");
+    uint8_t before[WORD] = {0}, after[WORD] = {0};
+    ssize_t first, length, last;
+
+    first = read_at(file, before, WORD, SLC1_GENERATION_AT);
+    atomic_thread_fence(memory_order_seq_cst);
+    length = read_at(file, image->bytes, size_of(image), 0);
+    atomic_thread_fence(memory_order_seq_cst);
+    last = read_at(file, after, WORD, SLC1_GENERATION_AT);
+    if (first < 0 || length < 0 || last < 0)
+        return STORE_FAILED;
+    image->length = (size_t)length;
+    if (memcmp(before, after, WORD) != 0)
+        image->bytes[SLC1_GENERATION_AT] |= 1;
+    return SLC1_DONE;
 }
+
+/* Whether the copy is CLEAN, with no wrong checksum, and the file that was copied, with the same header. */
+static bool is_up_to_date(const struct store_reader *reader, int file)
+{
+    struct store_image alone = under(&reader->image, SLC1_NO_WRITER_KNOWN);
+    uint8_t header[SLC1_HEADER_SIZE];
+    struct stat copied, named;
+
+    return reader->file >= 0 && reader->image.checksum != STORE_WRONG &&
+           slc1_open_check(STORE_LENT(&alone)) == SLC1_DONE && fstat(reader->file, &copied) == 0 &&
+           fstat(file, &named) == 0 && is_same_file(&copied, &named) &&
+           read_at(file, header, sizeof header, 0) == (ssize_t)sizeof header &&
+           memcmp(header, reader->image.bytes, sizeof header) == 0;
+}
+
+/* Copies and judges the file. The role is true of the bytes copied, so the lock is given back at once: no writer waits
+ * for what is done with them. */
+static uint32_t read_file(struct store_reader *reader, int file)
+{
+    struct store_image *image = &reader->image;
+    uint32_t locked = lock(file, LOCK_SH), answer;
+
+    if (locked == STORE_FAILED)
+        return STORE_FAILED;
+    image->options.role = locked == SLC1_DONE ? SLC1_NO_WRITER_KNOWN : SLC1_ANOTHER_WRITER;
+    answer = copy_file(image, file);
+    if (flock(file, LOCK_UN) != 0 || answer != SLC1_DONE) {
+        image->length = 0; /* no copy to keep */
+        return STORE_FAILED;
+    }
+    answer = slc1_open_check(STORE_LENT(image));
+    image->checksum = judge_checksum(image, reader->flags);
+    return image->checksum == STORE_WRONG ? (uint32_t)SLC1_NEEDS_REBUILD : answer;
+}
+
+/* One try to read the file, which is opened anew each time: a rebuild may have replaced it. The one that was copied stays
+ * open, so that no other gets its number. */
+static uint32_t try_read(struct store_reader *reader)
+{
+    int file;
+    uint32_t answer = open_file(&file, reader->path, O_RDONLY, 0);
+
+    if (answer != SLC1_DONE)
+        return answer;
+    if (is_up_to_date(reader, file)) {
+        close_file(file);
+        return SLC1_DONE;
+    }
+    close_file(reader->file);
+    reader->file = file;
+    return read_file(reader, file);
+}
+
+/* Whether a writer may soon make an image usable. Beside one, 4 is a commit under way, and 1 may be the CRC of a begin
+ * or checkpoint without its state, since these two leave the generation alone. */
+static bool may_soon_pass(const struct store_image *image, uint32_t answer)
+{
+    return image->options.role == SLC1_ANOTHER_WRITER && (answer == SLC1_BUSY || answer == SLC1_NEEDS_REBUILD);
+}
+
+uint32_t store_open_reader(struct store_reader *reader, const char *path, const slc1_options *options, int flags)
+{
+    *reader = (struct store_reader){.path = path, .flags = flags, .file = -1};
+    return new_image(&reader->image, options);
+}
+
+uint32_t store_read(struct store_reader *reader)
+{
+    uint32_t answer = try_read(reader);
+
+    for (int tries = 1; tries < READ_TRIES && may_soon_pass(&reader->image, answer); tries++) {
+        pause_briefly();
+        answer = try_read(reader);
+    }
+    return answer;
+}
+
+void store_close_reader(struct store_reader *reader)
+{
+    close_file(reader->file);
+    free(reader->image.bytes);
+}
+
+/* Publishing. */
 
 /* Makes the file's generation odd, which was even. */
-static void write_odd(const struct store_writer *writer)
+static uint32_t write_odd(const struct store_writer *writer)
 {
     uint8_t odd[WORD];
 
     memcpy(odd, writer->published + SLC1_GENERATION_AT, WORD);
     odd[0] |= 1;
-    write_at(writer, odd, WORD, SLC1_GENERATION_AT);
+    return write_at(writer->file, odd, WORD, SLC1_GENERATION_AT);
 }
 
 /* Writes the words from one offset up to another that differ from the file's; neighbours in one piece. */
-static void publish_words(const struct store_writer *writer, size_t from, size_t to)
+static uint32_t publish_words(const struct store_writer *writer, size_t from, size_t to)
 {
     const uint8_t *bytes = writer->image.bytes;
+    uint32_t answer = SLC1_DONE;
 
-    while (from < to) {
+    while (from < to && answer == SLC1_DONE) {
         size_t end = from;
 
         while (end < to && memcmp(bytes + end, writer->published + end, WORD) != 0)
             end += WORD;
-        write_at(writer, bytes + from, end - from, from);
+        answer = write_at(writer->file, bytes + from, end - from, from);
         from = end + WORD;
     }
+    return answer;
 }
 
 /* Brings the file to the private copy. Where the generation moves, it is odd before the first word changes, and even
  * after the last: a reader whose copy began and ended with one even generation has no part of a commit. */
-static void publish(struct store_writer *writer)
+static uint32_t publish(struct store_writer *writer)
 {
     const uint8_t *bytes = writer->image.bytes;
     size_t size = size_of(&writer->image);
     bool moves = memcmp(bytes + SLC1_GENERATION_AT, writer->published + SLC1_GENERATION_AT, WORD) != 0;
+    uint32_t answer = moves ? write_odd(writer) : (uint32_t)SLC1_DONE;
 
-    if (moves)
-        write_odd(writer);
     atomic_thread_fence(memory_order_seq_cst);
-    publish_words(writer, 0, SLC1_GENERATION_AT);
-    publish_words(writer, SLC1_GENERATION_AT + WORD, size);
+    if (answer == SLC1_DONE)
+        answer = publish_words(writer, 0, SLC1_GENERATION_AT);
+    if (answer == SLC1_DONE)
+        answer = publish_words(writer, SLC1_GENERATION_AT + WORD, size);
     atomic_thread_fence(memory_order_seq_cst);
-    if (moves)
-        write_at(writer, bytes + SLC1_GENERATION_AT, WORD, SLC1_GENERATION_AT);
+    if (answer == SLC1_DONE && moves)
+        answer = write_at(writer->file, bytes + SLC1_GENERATION_AT, WORD, SLC1_GENERATION_AT);
     memcpy(writer->published, bytes, size);
+    return answer;
 }
 
 /* Locking. */
 
-static void read_whole(struct store_writer *writer)
+static uint32_t read_whole(struct store_writer *writer)
 {
     struct store_image *image = &writer->image;
-    size_t size = size_of(image);
+    ssize_t length = read_at(writer->file, image->bytes, size_of(image), 0);
 
-    image->length = 0;
-    while (image->length < size) {
-        ssize_t got = pread(writer->locked, image->bytes + image->length, size - image->length, (off_t)image->length);
-
-        if (got < 0 && errno != EINTR)
-            fail_io(writer->path, "pread");
-        if (got == 0)
-            break;
-        if (got > 0)
-            image->length += (size_t)got;
-    }
-    memcpy(writer->published, image->bytes, size);
-}
-
-/* Whether only its role, 0, tells the image from one that a writer is at work on. */
-static bool left_dirty(const struct store_image *alone)
-{
-    struct store_image beside = *alone;
-
-    beside.options.role = SLC1_ANOTHER_WRITER;
-    return slc1_open_check(STORE_LENT(alone)) == SLC1_NEEDS_REBUILD && slc1_open_check(STORE_LENT(&beside)) == SLC1_DONE;
-}
-
-/* Whether `path` still names the file that was opened. */
-static bool names(const char *path, int file)
-{
-    struct stat named, opened;
-
-    return stat(path, &named) == 0 && fstat(file, &opened) == 0 && named.st_dev == opened.st_dev &&
-           named.st_ino == opened.st_ino;
-}
-
-/* One try for the exclusive lock; the private copy is then the file's. A reader that finds the lock held believes a
- * DIRTY image with an even generation. One that a dead writer or a power cut left must not be believed: it is struck
- * out, its generation made odd, under the shared lock, before the exclusive one is asked for. */
-static bool try_lock(struct store_writer *writer, int flags)
-{
-    writer->locked = writer->file = open_file(writer->path, O_RDWR | flags);
-    if (lock(writer->locked, writer->path, LOCK_SH)) {
-        read_whole(writer);
-        if (left_dirty(&writer->image))
-            write_odd(writer);
-        if (lock(writer->locked, writer->path, LOCK_EX) && names(writer->path, writer->locked)) {
-            read_whole(writer);
-            return true;
-        }
-    }
-    close(writer->locked);
-    return false;
-}
-
-uint32_t store_open(struct store_writer *writer, const char *path, const slc1_options *options, int flags)
-{
-    *writer = (struct store_writer){.image = new_image(options), .path = path};
-    writer->published = allocate(size_of(&writer->image));
-    for (int tries = 1; !try_lock(writer, flags); tries++) {
-        if (tries == LOCK_TRIES) {
-            free(writer->image.bytes);
-            free(writer->published);
-            return SLC1_BUSY;
-        }
-        pause_briefly();
-    }
+    if (length < 0)
+        return STORE_FAILED;
+    image->length = (size_t)length;
+    memcpy(writer->published, image->bytes, size_of(image));
     return SLC1_DONE;
 }
 
-void store_close(struct store_writer *writer)
+/* One that a dead writer or a power cut left: only its role, 0, tells it from one that a writer is at work on. */
+static bool is_left_dirty(const struct store_image *alone)
 {
-    if (writer->file != writer->locked)
-        close(writer->file);
-    close(writer->locked);
+    struct store_image beside = under(alone, SLC1_ANOTHER_WRITER);
+
+    return slc1_open_check(STORE_LENT(alone)) == SLC1_NEEDS_REBUILD && slc1_open_check(STORE_LENT(&beside)) == SLC1_DONE;
+}
+
+/* A reader that finds the lock held believes a DIRTY image with an even generation. One that was left so must not be
+ * believed: it is struck out, its generation made odd, before the exclusive lock is asked for. */
+static uint32_t strike_out(struct store_writer *writer)
+{
+    uint32_t answer = read_whole(writer);
+
+    if (answer == SLC1_DONE && is_left_dirty(&writer->image))
+        answer = write_odd(writer);
+    return answer;
+}
+
+/* Whether `path` still names the file that was opened. */
+static bool is_named(const struct store_writer *writer)
+{
+    struct stat named, opened;
+
+    return stat(writer->path, &named) == 0 && fstat(writer->file, &opened) == 0 && is_same_file(&named, &opened);
+}
+
+/* The exclusive lock of an open file, by way of the shared one; the private copy is then the file's. The shared lock is
+ * given back before the exclusive one is got. Where another process came in between, and replaced the file or died over
+ * it, all of this is tried again. */
+static uint32_t lock_for_writing(struct store_writer *writer)
+{
+    uint32_t answer = lock(writer->file, LOCK_SH);
+
+    if (answer == SLC1_DONE)
+        answer = strike_out(writer);
+    if (answer == SLC1_DONE)
+        answer = lock(writer->file, LOCK_EX);
+    if (answer == SLC1_DONE)
+        answer = read_whole(writer);
+    if (answer == SLC1_DONE && (!is_named(writer) || is_left_dirty(&writer->image)))
+        answer = SLC1_BUSY;
+    return answer;
+}
+
+static uint32_t try_lock(struct store_writer *writer)
+{
+    uint32_t answer = open_file(&writer->file, writer->path, O_RDWR, 0);
+
+    if (answer != SLC1_DONE)
+        return answer;
+    answer = lock_for_writing(writer);
+    if (answer != SLC1_DONE)
+        close_file(writer->file);
+    return answer;
+}
+
+static void free_writer(struct store_writer *writer)
+{
+    int kept = errno;
+
     free(writer->image.bytes);
     free(writer->published);
+    errno = kept;
+}
+
+uint32_t store_open_writer(struct store_writer *writer, const char *path, const slc1_options *options)
+{
+    uint32_t answer;
+
+    *writer = (struct store_writer){.path = path};
+    answer = new_image(&writer->image, options);
+    if (answer == SLC1_DONE && (writer->published = calloc(1, size_of(&writer->image))) == NULL)
+        answer = STORE_FAILED;
+    if (answer == SLC1_DONE)
+        answer = try_lock(writer);
+    for (int tries = 1; tries < LOCK_TRIES && answer == SLC1_BUSY; tries++) {
+        pause_briefly();
+        answer = try_lock(writer);
+    }
+    if (answer != SLC1_DONE)
+        free_writer(writer);
+    else
+        writer->image.checksum = judge_checksum(&writer->image, STORE_VERIFY);
+    return answer;
+}
+
+void store_close_writer(struct store_writer *writer)
+{
+    close_file(writer->file);
+    free_writer(writer);
 }
 
 /* Writing. */
+
+/* From the first change to the last, a signal that would end the process waits. */
+static void hold_signals(sigset_t *before)
+{
+    sigset_t held;
+
+    sigemptyset(&held);
+    sigaddset(&held, SIGINT);
+    sigaddset(&held, SIGTERM);
+    sigaddset(&held, SIGHUP);
+    sigaddset(&held, SIGPIPE);
+    pthread_sigmask(SIG_BLOCK, &held, before);
+}
+
+static void let_signals(const sigset_t *before)
+{
+    int kept = errno;
+
+    pthread_sigmask(SIG_SETMASK, before, NULL);
+    errno = kept;
+}
 
 /* Where the batch that begins with a record ends. */
 static size_t batch_end(const struct store_records *records, size_t first)
@@ -320,110 +498,243 @@ static uint32_t commit(struct store_image *image, const struct store_records *re
     return slc1_commit(STORE_LENT(image), records->bytes + first * record_size, count * record_size);
 }
 
-/* What the records will be answered, tried on a copy: where they are refused, nothing has been written. The full check
- * under role 0 comes first: no writer is active, so a DIRTY image was left by one that died. Then role 2 is true. */
+/* What a step on the private copy answered. Where it is done, the file follows; a rehearsal has no writer. */
+static uint32_t followed(struct store_writer *writer, uint32_t answer)
+{
+    return writer == NULL || answer != SLC1_DONE ? answer : publish(writer);
+}
+
+static uint32_t synced(struct store_writer *writer, uint32_t answer)
+{
+    if (writer == NULL || answer != SLC1_DONE)
+        return answer;
+    return fdatasync(writer->file) != 0 ? STORE_FAILED : SLC1_DONE;
+}
+
+/* Commits the records to an image, and where there is a writer to its file. DIRTY is on the disk before any commit is,
+ * and every commit before CLEAN is: after a power cut the file is as it was, or needs a rebuild, or the work is done. */
+static uint32_t change(struct store_image *image, const struct store_records *records, struct store_writer *writer)
+{
+    uint32_t answer;
+
+    image->options.role = SLC1_LOCK_HELD;
+    answer = synced(writer, followed(writer, slc1_begin(STORE_LENT(image))));
+    for (size_t first = 0; answer == SLC1_DONE && first < records->count; first += SLC1_BATCH_LIMIT) {
+        answer = followed(writer, commit(image, records, first));
+        if (answer == SLC1_DONE && writer != NULL && writer->progress != NULL)
+            writer->progress(batch_end(records, first), records->count);
+    }
+    if (answer == SLC1_DONE)
+        answer = synced(writer, followed(writer, renew_checksum(image)));
+    if (answer == SLC1_DONE)
+        answer = synced(writer, followed(writer, slc1_checkpoint(STORE_LENT(image))));
+    return answer;
+}
+
+/* What the records will be answered, tried on a copy: where they are refused, nothing has been written. */
 static uint32_t rehearse(const struct store_image *image, const struct store_records *records)
 {
     struct store_image trial = *image;
-    uint32_t answer = slc1_full_check(STORE_LENT(image));
+    uint32_t answer;
 
-    if (answer != SLC1_DONE)
-        return answer;
-    trial.bytes = allocate(size_of(image));
+    trial.bytes = malloc(size_of(image));
+    if (trial.bytes == NULL)
+        return STORE_FAILED;
     memcpy(trial.bytes, image->bytes, image->length);
-    trial.options.role = SLC1_LOCK_HELD;
-    answer = slc1_begin(STORE_LENT(&trial));
-    for (size_t first = 0; answer == SLC1_DONE && first < records->count; first += SLC1_BATCH_LIMIT)
-        answer = commit(&trial, records, first);
+    answer = change(&trial, records, NULL);
     free(trial.bytes);
     return answer;
 }
 
-/* Writes rehearsed records. DIRTY is on the disk before any commit is, and every commit before CLEAN is: after a power
- * cut the file is as it was, or needs a rebuild, or the work is done. */
-static uint32_t perform(struct store_writer *writer, const struct store_records *records)
+/* The role is 0: no writer is active, so a DIRTY image was left by one that died. */
+uint32_t store_judge(const struct store_writer *writer)
 {
-    struct store_image *image = &writer->image;
-    uint32_t answer;
+    struct store_image alone = under(&writer->image, SLC1_NO_WRITER_KNOWN);
 
-    image->options.role = SLC1_LOCK_HELD;
-    answer = slc1_begin(STORE_LENT(image));
-    publish(writer);
-    sync_data(writer);
-    for (size_t first = 0; answer == SLC1_DONE && first < records->count; first += SLC1_BATCH_LIMIT) {
-        answer = commit(image, records, first);
-        publish(writer);
-        if (writer->progress != NULL)
-            writer->progress(batch_end(records, first), records->count);
-    }
-    sync_data(writer);
-    if (answer == SLC1_DONE)
-        answer = slc1_checkpoint(STORE_LENT(image));
-    publish(writer);
-    sync_data(writer);
-    return answer;
+    return alone.checksum == STORE_WRONG ? (uint32_t)SLC1_NEEDS_REBUILD : slc1_full_check(STORE_LENT(&alone));
 }
 
 uint32_t store_update(struct store_writer *writer, const struct store_records *records)
 {
-    uint32_t answer = rehearse(&writer->image, records);
+    uint32_t answer = store_judge(writer);
+    sigset_t before;
 
-    return answer == SLC1_DONE ? perform(writer, records) : answer;
+    if (answer == SLC1_DONE)
+        answer = rehearse(&writer->image, records);
+    if (answer != SLC1_DONE)
+        return answer;
+    hold_signals(&before);
+    answer = change(&writer->image, records, writer);
+    let_signals(&before);
+    if (answer == SLC1_DONE)
+        writer->image.checksum = STORE_RIGHT;
+    return answer;
 }
 
-/* Changes go to FILE.new from now on, which begins as the private copy. */
-static void begin_new_file(struct store_writer *writer, const char *new_path)
+/* Rebuilding. */
+
+static const uint8_t MAGIC[] = {'S', 'L', 'C', '1'};
+
+/* Whether bytes are such as may be given up: none, or those of an image, damaged or not. */
+static bool is_nothing_else(const uint8_t *bytes, size_t length)
 {
-    if (unlink(new_path) != 0 && errno != ENOENT)
-        fail_io(new_path, "unlink");
-    writer->file = open_file(new_path, O_RDWR | O_CREAT | O_EXCL);
-    if (fchmod(writer->file, status_of(writer->locked, writer->path).st_mode & 0777) != 0)
-        fail_io(new_path, "fchmod");
-    write_at(writer, writer->image.bytes, writer->image.length, 0);
-    memcpy(writer->published, writer->image.bytes, writer->image.length);
-    if (fsync(writer->file) != 0)
-        fail_io(new_path, "fsync");
+    return length == 0 || (length >= sizeof MAGIC && memcmp(bytes, MAGIC, sizeof MAGIC) == 0);
 }
 
-/* FILE.new, finished and synced, becomes the file; so does its name in the folder. */
-static void replace_file(const char *new_path, char *real_path)
+/* Whether another file may take this one's place. */
+static uint32_t judge_replacement(const struct store_writer *writer)
+{
+    const struct store_image *image = &writer->image;
+    struct stat status;
+
+    if (!is_nothing_else(image->bytes, image->length) || slc1_open_check(STORE_LENT(image)) == SLC1_INCOMPATIBLE)
+        return SLC1_INCOMPATIBLE;
+    if (fstat(writer->file, &status) != 0)
+        return STORE_FAILED;
+    return status.st_nlink > 1 ? STORE_HARD_LINKS : SLC1_DONE;
+}
+
+/* Gives a new file the owner and the mode of the old one. */
+static uint32_t take_over(int new_file, int old_file)
+{
+    struct stat is, was;
+
+    if (fstat(new_file, &is) != 0 || fstat(old_file, &was) != 0)
+        return STORE_FAILED;
+    if ((is.st_uid != was.st_uid || is.st_gid != was.st_gid) && fchown(new_file, was.st_uid, was.st_gid) != 0)
+        return STORE_OTHER_OWNER;
+    return fchmod(new_file, was.st_mode & 07777) != 0 ? STORE_FAILED : SLC1_DONE;
+}
+
+/* Removes what a rebuild left that was cut off. */
+static uint32_t remove_leftover(const char *new_path)
+{
+    uint8_t first[sizeof MAGIC];
+    ssize_t length;
+    int file;
+    uint32_t answer = open_file(&file, new_path, O_RDONLY, 0);
+
+    if (answer != SLC1_DONE)
+        return answer == STORE_FAILED && errno == ENOENT ? (uint32_t)SLC1_DONE : answer;
+    length = read_at(file, first, sizeof first, 0);
+    close_file(file);
+    if (length < 0)
+        return STORE_FAILED;
+    if (!is_nothing_else(first, (size_t)length))
+        return STORE_IN_THE_WAY;
+    return unlink(new_path) != 0 ? STORE_FAILED : SLC1_DONE;
+}
+
+/* Writes the private copy to a new file, and syncs it. */
+static uint32_t write_new_file(const struct store_writer *writer, const char *new_path)
+{
+    int file;
+    uint32_t answer = open_file(&file, new_path, O_RDWR | O_CREAT | O_EXCL, 0600);
+
+    if (answer != SLC1_DONE)
+        return answer;
+    answer = take_over(file, writer->file);
+    if (answer == SLC1_DONE)
+        answer = write_at(file, writer->image.bytes, writer->image.length, 0);
+    if (answer == SLC1_DONE && fsync(file) != 0)
+        answer = STORE_FAILED;
+    close_file(file);
+    return answer;
+}
+
+/* Syncs the folder of a file, and with it the file's name. */
+static uint32_t sync_folder(char *real_path)
 {
     int folder;
+    uint32_t answer;
 
-    if (rename(new_path, real_path) != 0)
-        fail_io(new_path, "rename");
     strrchr(real_path, '/')[1] = '\0';
     folder = open(real_path, O_RDONLY | O_DIRECTORY | O_CLOEXEC);
-    if (folder < 0 || fsync(folder) != 0)
-        fail_io(real_path, "fsync");
-    close(folder);
+    if (folder < 0)
+        return STORE_FAILED;
+    answer = fsync(folder) != 0 ? STORE_FAILED : SLC1_DONE;
+    close_file(folder);
+    return answer;
 }
 
-/* Writes rehearsed records to a file of its own, which takes the place of the old one when it is finished: of the one
- * that `path` names behind symbolic links. */
-static uint32_t perform_anew(struct store_writer *writer, const struct store_records *records)
+/* FILE.new takes the place of the file when it is whole: of the one that `path` names behind symbolic links. */
+static uint32_t replace_file(const struct store_writer *writer)
 {
     char real_path[PATH_MAX], new_path[sizeof real_path + sizeof ".new"];
     uint32_t answer;
 
     if (realpath(writer->path, real_path) == NULL)
-        fail_io(writer->path, "realpath");
+        return STORE_FAILED;
     snprintf(new_path, sizeof new_path, "%s.new", real_path);
-    begin_new_file(writer, new_path);
-    answer = perform(writer, records);
+    answer = remove_leftover(new_path);
+    if (answer != SLC1_DONE)
+        return answer;
+    answer = write_new_file(writer, new_path);
+    if (answer == SLC1_DONE && rename(new_path, real_path) != 0)
+        answer = STORE_FAILED;
     if (answer == SLC1_DONE)
-        replace_file(new_path, real_path);
+        return sync_folder(real_path);
+    remove_file(new_path);
     return answer;
 }
 
 uint32_t store_rebuild(struct store_writer *writer, const struct store_records *records)
 {
     struct store_image *image = &writer->image;
-    uint32_t answer;
+    uint32_t answer = judge_replacement(writer);
+    sigset_t before;
 
+    if (answer != SLC1_DONE)
+        return answer;
     image->length = size_of(image);
     answer = slc1_create(STORE_LENT(image));
     if (answer == SLC1_DONE)
-        answer = rehearse(image, records);
-    return answer == SLC1_DONE ? perform_anew(writer, records) : answer;
+        answer = change(image, records, NULL);
+    if (answer != SLC1_DONE)
+        return answer;
+    hold_signals(&before);
+    answer = replace_file(writer);
+    let_signals(&before);
+    return answer;
+}
+
+/* Fills an empty file. Where that fails and this call has made the file, it is removed; but not what another process has
+ * filled meanwhile. */
+static uint32_t fill_empty(const char *path, const slc1_options *options, bool made)
+{
+    const struct store_records none = {NULL, 0};
+    struct store_writer writer;
+    uint32_t answer = store_open_writer(&writer, path, options);
+
+    if (answer != SLC1_DONE) {
+        if (made && answer != SLC1_BUSY)
+            remove_empty(path);
+        return answer;
+    }
+    answer = writer.image.length > 0 ? (uint32_t)STORE_EXISTS : store_rebuild(&writer, &none);
+    if (made && answer != SLC1_DONE && answer != STORE_EXISTS)
+        remove_file(path);
+    store_close_writer(&writer);
+    return answer;
+}
+
+static uint32_t make_and_fill(const char *path, const slc1_options *options)
+{
+    int made = open(path, O_WRONLY | O_CREAT | O_EXCL | O_CLOEXEC, 0666);
+
+    if (made < 0 && errno != EEXIST)
+        return STORE_FAILED;
+    close_file(made);
+    return fill_empty(path, options, made >= 0);
+}
+
+uint32_t store_create(const char *path, const slc1_options *options)
+{
+    sigset_t before;
+    uint32_t answer;
+
+    hold_signals(&before);
+    answer = make_and_fill(path, options);
+    let_signals(&before);
+    return answer;
 }

@@ -1,17 +1,23 @@
-/* store.h: SLC1 images in files that several processes read and write. For a host of slc1.h, in C11 and POSIX.
+/* store.h: SLC1 images in files that several processes read and write. For a host of slc1.h, in C11 or C++ and POSIX.
  *
  * The library works on lent bytes that stand still. The store lends it private copies, and does what the library leaves
- * to its host: files, locks, mapping, syncing, and readers beside a writer. All processes that share a file go through
- * the store.
+ * to its host: files, locks, syncing, readers beside a writer, and a checksum over slots and buckets. Every program that
+ * touches a file goes through the store.
+ *
+ * Answers. Each call gives back a number of slc1.h, or one of the store's own. None ends the process or prints.
  *
  * Locks. A writer holds the file's exclusive lock from before begin until after checkpoint. A reader that gets the
  * shared lock therefore knows that no writer is active (role 0), and one that does not knows that one is (role 1). Only
  * the holder of the exclusive lock of the file that FILE names may replace that file, and only it touches FILE.new.
  *
- * Ends. Any call may end the process: what is left is then what a kill at that point leaves. The file is as it was, or
- * it needs a rebuild, or the work is done.
+ * Ends. Whenever the process ends or a call fails, the file is as it was, or it needs a rebuild, or the work is done.
+ * From begin to checkpoint, and while a file is made or replaced, the signals INT, TERM, HUP and PIPE wait.
  *
- * Options are in range. Their role is not looked at: the store finds it out.
+ * Checksum. SLC1 has none over slots and buckets. The store keeps one in the first 16 of the 64 bytes of user data: the
+ * mark "slotsCRC", the CRC32-C of all bytes behind the header as a u64. It is renewed before each checkpoint, and holds
+ * for CLEAN images. The other 48 bytes and the user flags are the host's own, and stay.
+ *
+ * The role of the options is not looked at: the store finds it out.
  */
 #ifndef STORE_H
 #define STORE_H
@@ -21,25 +27,65 @@
 
 #include "slc1.h"
 
-/* Says why, and ends the process. The host defines it; the store calls it with EXIT_IO. */
-enum { EXIT_IO = 74 }; /* a system call failed, or memory is short */
-_Noreturn void fail(int status, const char *format, ...);
+#ifdef __cplusplus
+extern "C" {
+#endif
 
-/* Fails with what errno says of a call on a file. */
-_Noreturn void fail_io(const char *path, const char *call);
+/* Answers beside those of slc1.h. */
+enum {
+    STORE_FAILED = 32,      /* a call of the system failed, or memory is short: errno says why */
+    STORE_NOT_REGULAR = 33, /* a folder, a pipe or a device stands in the file's place */
+    STORE_EXISTS = 34,      /* a file to create is there, and not empty */
+    STORE_HARD_LINKS = 35,  /* the file has other names, which a rebuild would leave with the old bytes */
+    STORE_OTHER_OWNER = 36, /* a rebuild can't give the new file to the old one's owner */
+    STORE_IN_THE_WAY = 37   /* FILE.new is there, and is not what a rebuild left */
+};
+
+/* A sentence for an answer, of the store or of slc1.h. */
+const char *store_text(uint32_t answer);
+
+/* What is known of a checksum. */
+enum {
+    STORE_UNCHECKED = 0, /* not looked at: the image is not CLEAN, or too large for a single read */
+    STORE_NO_MARK = 1,   /* there is none: a changed slot would not be noticed */
+    STORE_RIGHT = 2,
+    STORE_WRONG = 3      /* bytes have changed since they were written */
+};
 
 /* A private copy of a file's image, for any call that reads: slc1_full_check(STORE_LENT(&image)). */
 struct store_image {
     uint8_t *bytes;
     size_t length;
     slc1_options options; /* with the role that is true of these bytes */
+    int checksum;
 };
 
 #define STORE_LENT(image) (image)->bytes, (image)->length, SLC1_OPTIONS(&(image)->options)
 
-/* Copies what a file holds at one moment. Where writers leave no such moment for a quarter of a second, every call of
- * slc1.h answers SLC1_BUSY for the copy. The caller frees its bytes. */
-struct store_image store_read(const char *path, const slc1_options *options);
+/* A reader of a file. The host may read the image; the rest is the store's. */
+struct store_reader {
+    struct store_image image;
+    const char *path;
+    int flags;
+    int file; /* the file that was copied, or -1 */
+};
+
+/* Up to this many bytes the checksum is made with every read, in less than a millisecond. */
+enum { STORE_SMALL = 256 * 1024 };
+
+/* A flag: the checksum of a larger image is made too. For a process that stays open. */
+enum { STORE_VERIFY = 1 };
+
+/* Makes a reader, with no copy yet; flags is 0 or STORE_VERIFY. The caller keeps the path and, where the answer is
+ * SLC1_DONE, closes the reader. SLC1_INVALID_INPUT where the options are out of range. */
+uint32_t store_open_reader(struct store_reader *reader, const char *path, const slc1_options *options, int flags);
+
+/* Copies what the file holds at one moment. A copy that is CLEAN is kept where the file still has the same header. The
+ * answer is that of slc1_open_check, or SLC1_NEEDS_REBUILD where the checksum is wrong; SLC1_BUSY where writers leave no
+ * such moment for a quarter of a second. */
+uint32_t store_read(struct store_reader *reader);
+
+void store_close_reader(struct store_reader *reader);
 
 /* Records one after the other, laid out as in a batch. There may be more than a batch has. */
 struct store_records {
@@ -52,23 +98,36 @@ struct store_writer {
     struct store_image image;
     void (*progress)(size_t done, size_t all); /* called after each commit, unless it is NULL */
     const char *path;
-    int locked;         /* the file that `path` names, with its exclusive lock */
-    int file;           /* where changes go: the same, or the file that will replace it */
+    int file;           /* the file that `path` names, with its exclusive lock */
     uint8_t *published; /* what stands there */
 };
 
-/* Locks a file; flags is 0, or O_CREAT to make one of length 0 where there is none. SLC1_DONE, and the caller closes
- * the writer and keeps the path until then; or SLC1_BUSY, where others held locks for two seconds. */
-uint32_t store_open(struct store_writer *writer, const char *path, const slc1_options *options, int flags);
+/* Locks a file, and copies it. SLC1_DONE whatever it holds, and the caller closes the writer and keeps the path until
+ * then; SLC1_BUSY, where others held locks for two seconds; SLC1_INVALID_INPUT where the options are out of range. Of an
+ * image that a dead writer left DIRTY the generation is made odd, so that no reader takes this one for its writer. */
+uint32_t store_open_writer(struct store_writer *writer, const char *path, const slc1_options *options);
 
-/* Commits the records. SLC1_DONE; or the number by which the image or a batch is refused, and nothing is written. */
+/* Whether the image can be changed: the full check's answer, or SLC1_NEEDS_REBUILD where the checksum is wrong. */
+uint32_t store_judge(const struct store_writer *writer);
+
+/* Commits the records. SLC1_DONE; or the number by which the image (store_judge) or a batch is refused, and nothing is
+ * written. After STORE_FAILED the file may need a rebuild. */
 uint32_t store_update(struct store_writer *writer, const struct store_records *records);
 
-/* Replaces the file, whatever it holds, by one with these records alone. Its mode and symbolic links to it stay.
- * Answers as store_update does; either way the writer can only be closed then. */
+/* Replaces the file by one with these records alone, once that is whole and synced. Its owner, its mode and symbolic
+ * links to it stay; access lists do not. A file is replaced that is empty or an image for the same options, damaged or
+ * not: SLC1_INCOMPATIBLE for any other. Answers as store_update does; either way the writer can only be closed then. */
 uint32_t store_rebuild(struct store_writer *writer, const struct store_records *records);
 
 /* Gives the lock back. */
-void store_close(struct store_writer *writer);
+void store_close_writer(struct store_writer *writer);
+
+/* Makes a file with an empty cache, where there is none or one of length 0; else STORE_EXISTS. Where it fails it leaves
+ * no file behind that was not there. */
+uint32_t store_create(const char *path, const slc1_options *options);
+
+#ifdef __cplusplus
+}
+#endif
 
 #endif

@@ -8,6 +8,8 @@ import re
 import signal
 import subprocess
 import sys
+import threading
+import time
 from collections import Counter, namedtuple
 
 import second
@@ -25,37 +27,35 @@ Ran = namedtuple("Ran", "status out err")
 # A part of the sentence that each answer brings.
 SENTENCES = {1: "needs a rebuild", 2: "is incompatible", 3: "was given up", 4: "is busy", 5: "is full",
              9: "has no certificate of this serial", 10: "is an empty file"}
+# What that sentence tells to run.
+ADVICE = {1: "bench rebuild", 3: "bench rebuild", 10: "bench create"}
 LOADED = "300 certificates loaded, 300 live\n"
+REBUILT = "cache rebuilt: 300 certificates\n"
 RANDOM = random.Random(1)
 COUNTS = Counter()
-COUNTED = ("runs", "comparisons", "damaged images", "kills", "power cuts", "reads beside a held writer",
-           "reads beside a writer", "of them while it held the lock", "of them answered busy")
+COUNTED = ("runs", "comparisons", "prefixes of certificates", "damaged images", "kills", "power cuts", "signals",
+           "failed calls", "reads beside a held writer", "reads beside a writer", "of them while it held the lock",
+           "of them answered busy")
 
 
 def holds(what, fact):
     COUNTS["comparisons"] += 1
     if not fact:
-        sys.exit(f"bench: {what}")
+        sys.exit(f"bench: {what!s:.3000}")
 
 
 def same(what, got, wanted):
-    holds(f"{what}\ngot:    {got}\nwanted: {wanted}", got == wanted)
+    holds(f"{what}\ngot:    {str(got):.500}\nwanted: {str(wanted):.500}", got == wanted)
+
+
+def says(ran, *parts):
+    for part in parts:
+        holds(f"not '{part}' but '{ran.err}'", part in ran.err)
 
 
 # Certificates and files.
 
-def read_certificates(path):
-    with open(path) as file:
-        header, *rows = file.read().split()
-    assert header == "serial,revision,gain"
-    return [Certificate(serial, int(revision), gain) for serial, revision, gain in (row.split(",") for row in rows)]
-
-
-NEW = read_certificates(os.path.join(ROOT, "examples", "certificates.csv"))
-# Other certificates for the same serials. Every word of a revision and a gain differs.
-OLD = [Certificate(new.serial, new.revision - 1000, f"{number / 8:+013.4f}~{number:06}") for number, new in enumerate(NEW)]
-# What a reader may see while NEW is loaded over OLD: whole commits.
-BETWEEN = [NEW[:number] + OLD[number:] for number in range(0, len(NEW) + BATCH, BATCH)]
+HEADING = "serial,revision,gain\n"
 
 
 def path_of(name):
@@ -73,39 +73,89 @@ def read(name):
         return file.read()
 
 
+def there(name):
+    return os.path.lexists(path_of(name))
+
+
+def row(c):
+    return f"{c.serial},{c.revision},{c.gain}\n"
+
+
+def rows(certificates):
+    return HEADING + "".join(map(row, certificates))
+
+
 def write_certificates(name, certificates):
-    rows = [f"{c.serial},{c.revision},{c.gain}\n" for c in certificates]
-    return write(name, ("serial,revision,gain\n" + "".join(rows)).encode())
+    return write(name, rows(certificates).encode())
 
 
-def changed(image, **fields):
-    image = bytearray(image)
-    second.write_fields(image, **fields)
-    return bytes(image)
+def certificates_in(listed):
+    """The certificates of a text of the form that list prints and load reads."""
+    heading, *lines = listed.splitlines(True)
+    same("the first line", heading, HEADING)
+    matches = [re.fullmatch(r"(.{12}),(-?\d+),([^,\n]{1,20})\n", line) for line in lines]
+    holds(f"lines of certificates: {lines}", all(matches))
+    return [Certificate(match[1], int(match[2]), match[3]) for match in matches]
+
+
+with open(os.path.join(ROOT, "examples", "certificates.csv")) as of_the_example:
+    NEW = certificates_in(of_the_example.read())
+# Other certificates for the same serials. Every word of a revision and a gain differs, and NEW's revisions are newer.
+OLD = [Certificate(c.serial, c.revision - 1000, f"{number / 8:+013.4f}{number:07}") for number, c in enumerate(NEW)]
+# What a reader may see while NEW is loaded over OLD: whole commits. The last commit changes the user fields alone.
+BETWEEN = [NEW[:number] + OLD[number:] for number in range(0, len(NEW) + BATCH, BATCH)] + [NEW]
 
 
 # The program.
 
+STARTED = {}  # processes, and when each was started
+FEW = 24
+LONGEST = 60  # seconds that a process may take
+
+
+def watch():
+    """Ends what hangs, by a signal that no test sends."""
+    while True:
+        time.sleep(1)
+        for process, began in list(STARTED.items()):
+            if time.monotonic() - began > LONGEST:
+                process.send_signal(signal.SIGABRT)
+                process.send_signal(signal.SIGCONT)
+
+
+threading.Thread(target=watch, daemon=True).start()
+
+
 class Bench:
     def __init__(self, name, step):
-        """Of what a part has in bulk, every step-th is tried: the sanitized program takes ten times as long to start."""
         self.program = os.path.join(BUILT, name)
         self.step = step
 
-    def start(self, *words, out=subprocess.PIPE, **shim):
-        """Capitals are variables of the shim, which is loaded if there are any."""
-        environment = {"ASAN_OPTIONS": "exitcode=99:detect_leaks=0", "UBSAN_OPTIONS": "exitcode=99"}
+    def some(self, tries):
+        """Of tries in bulk every step-th, since the sanitized program takes five times as long to start; of a few, all."""
+        tries = list(tries)
+        return tries[::self.step if len(tries) > FEW else 1]
+
+    def start(self, *words, out=subprocess.PIPE, err=subprocess.PIPE, before=None, **shim):
+        """Capitals are variables of the shim, which is loaded if there are any. `before` is run in the new process."""
+        environment = {"ASAN_OPTIONS": "exitcode=99:detect_leaks=0:verify_asan_link_order=0",  # the shim comes first
+                       "UBSAN_OPTIONS": "exitcode=99"}
         if shim:
             environment["LD_PRELOAD"] = os.path.join(BUILT, "kill_at.so")
-            environment.update({name: str(value) for name, value in shim.items()})
-        return subprocess.Popen(
-            [self.program, *words], cwd=WORK, env=environment, stdout=out, stderr=subprocess.PIPE, text=True)
+            environment.update({name: str(int(value) if isinstance(value, int) else value) for name, value in shim.items()})
+        process = subprocess.Popen(
+            [self.program, *words], cwd=WORK, env=environment, stdin=subprocess.DEVNULL, stdout=out, stderr=err,
+            preexec_fn=before, encoding="latin-1")
+        STARTED[process] = time.monotonic()
+        return process
 
-    def ended(self, process):
-        out, err = process.communicate(timeout=60)
+    def ended(self, process, by=signal.SIGKILL):
+        """A process ends by itself or by the one signal that was sent to it, and no sanitizer complains."""
+        out, err = process.communicate()
         status = process.returncode
+        del STARTED[process]
         COUNTS["runs"] += 1
-        holds(f"{process.args} ended by {status}:\n{err}", status == -signal.SIGKILL or 0 <= status < 99)
+        holds(f"{process.args} ended by {status}:\n{err}", status == -by or 0 <= status < 99)
         return Ran(status, out, err)
 
     def run(self, *words, **shim):
@@ -117,80 +167,28 @@ class Bench:
         same(f"{words}: {ran.err}", ran.status, 0)
         return ran.out
 
+    def silent(self, *words):
+        """What a run that must succeed, and has nothing to say on standard error, prints."""
+        ran = self.run(*words)
+        same(f"{words}", (ran.status, ran.err), (0, ""))
+        return ran.out
+
     def refused(self, status, sentence, *words):
         ran = self.run(*words)
         same(f"{words}: {ran.err}", ran.status, status)
         holds(f"{words}: not '{sentence}' but '{ran.err}'", sentence in ran.err)
+        holds(f"{words}: every line begins with the program's name: {ran.err}",
+              status == 64 or all(line.startswith("bench: ") for line in ran.err.splitlines()))
         same(f"{words}: output", ran.out, "")
+        return ran
 
+    def answers(self, answer, *words):
+        """Refused by an answer of document 01, with its sentence and what that tells to do."""
+        return says(self.refused(answer, SENTENCES[answer], *words), ADVICE.get(answer, ""))
 
-# What the second program makes of an image.
-
-def text(data):
-    return "".join(chr(byte) if 33 <= byte <= 126 else f"\\x{byte:02x}" for byte in data)
-
-
-def shown(image, number):
-    slot = second.Table(image, OPTIONS).slot(number)
-    return f"{text(slot.key)} slot {number} revision {slot.revision} gain {text(slot.index.rstrip(bytes(1)))}"
-
-
-def wanted_get(image, role, serial):
-    found = second.lookup(image, OPTIONS._replace(role=role), serial.encode())
-    return found.answer, f"{shown(image, found.slot)} buckets {found.buckets}\n" if found.answer == 0 else ""
-
-
-def wanted_numbers(image, listed, numbers):
-    return listed.answer, "".join(shown(image, number) + "\n" for number in numbers[:listed.written])
-
-
-def wanted_list(image, role):
-    numbers = [0] * OPTIONS.slot_capacity
-    return wanted_numbers(image, second.scan(image, OPTIONS._replace(role=role), 0, len(numbers), numbers), numbers)
-
-
-def wanted_find(image, role, half):
-    numbers = [0] * OPTIONS.slot_capacity
-    pattern = half.encode()
-    listed = second.match(image, OPTIONS._replace(role=role), 0, 8 * len(pattern), pattern, 0, len(numbers), numbers)
-    return wanted_numbers(image, listed, numbers)
-
-
-def wanted_check(image, role):
-    checked = second.full_check(image, OPTIONS._replace(role=role))
-    return checked.answer, "answer %d live %d tombstones %d probes %d\n" % checked
-
-
-WANTED = {"get": wanted_get, "list": wanted_list, "find": wanted_find, "check": wanted_check}
-
-
-def agrees(ran, image, role, command, *words):
-    """A run answered as the second program does, with the sentence that belongs to the answer."""
-    answer, out = WANTED[command](image, role, *words)
-    same(f"{command} {words}: {ran.err}", (ran.status, ran.out), (answer, out))
-    holds(f"answer {answer} brings '{ran.err}'", SENTENCES.get(answer, "") in ran.err)
-
-
-def reads(bench, name, command, *words):
-    ran = bench.run(command, name, *words)
-    agrees(ran, read(name), 0, command, *words)
-    return ran
-
-
-def listing(certificates):
-    """What list prints for certificates in the first slots."""
-    return "".join(f"{c.serial} slot {slot} revision {c.revision} gain {c.gain}\n" for slot, c in enumerate(certificates))
-
-
-def pairs(out):
-    """Serial, revision and gain of each line."""
-    lines = re.findall(r"^(\S{12}) slot \d+ revision (-?\d+) gain (\S+)(?: buckets \d+)?\n", out, re.M)
-    same("lines of the form of a certificate", len(lines), out.count("\n"))
-    return [Certificate(serial, int(revision), gain) for serial, revision, gain in lines]
-
-
-def loaded(bench, name, certificates):
-    """The image of a file with exactly these certificates."""
-    write(name, b"")
-    bench.done("load", name, write_certificates("loaded.csv", certificates))
-    return read(name)
+    def leaves_alone(self, name, refuse, *words):
+        """`refuse` of words, and the file is byte for byte what it was."""
+        before = read(name)
+        refused = refuse(*words)
+        holds(f"{name} after {words}", read(name) == before)
+        return refused

@@ -1,13 +1,15 @@
 /* Loaded before the C library into a process under test (LD_PRELOAD), to end or hold it at a chosen place, and to note
  * what it does. All that is wanted comes from the environment:
  *
- *     KILL_AT       the number, from 1, of the call of pwrite, fdatasync, fsync or rename at which the process ends
+ *     KILL_AT       the number, from 1, of the call of pwrite, fdatasync, fsync, unlink or rename at which the process ends
  *     KILL_SIGNAL   by which signal; SIGKILL if it is not set. After SIGSTOP and SIGCONT the call is made
+ *     KILL_ERROR    an errno: the process does not end, but the call fails so
  *     KILL_HALF     if set, the first half of a write's bytes is written before
  *     KILL_CALLS    a file: one line for each of these calls that was made, a write's with its offset and bytes
  *     KILL_HELD     a file: one byte for each lock that was refused, since another process holds it
- *     KILL_LOCK     the number, from 1, of the call of flock before which the process stops itself
- *     KILL_COPY     if set, the process stops itself once in the middle of copying an image
+ *     KILL_LOCK     the number, from 1, of the call of flock before which the process stops itself. A lock that it has is
+ *                   given back before, as flock gives it back before it gets another kind
+ *     KILL_COPY     if set, the process stops itself once in the middle of reading an image
  *     KILL_PAUSE    microseconds to wait before each of the calls
  */
 #define _GNU_SOURCE /* RTLD_NEXT */
@@ -18,12 +20,11 @@
 #include <signal.h>
 #include <stdio.h>
 #include <stdlib.h>
-#include <string.h>
 #include <sys/file.h>
 #include <sys/types.h>
 #include <unistd.h>
 
-enum { COPIED_BEFORE = 4096, IMAGE_AT_LEAST = 8192 };
+enum { READ_BEFORE = 4096, IMAGE_AT_LEAST = 8192 };
 
 static long calls;
 
@@ -41,9 +42,17 @@ static int is_chosen(void)
     return ++calls == number("KILL_AT", 0);
 }
 
-static void end_or_hold(void)
+/* Ends or holds the process; or gives back that the call fails. */
+static int fails(void)
 {
-    kill(getpid(), (int)number("KILL_SIGNAL", SIGKILL));
+    long error = number("KILL_ERROR", 0);
+
+    if (error == 0) {
+        kill(getpid(), (int)number("KILL_SIGNAL", SIGKILL));
+        return 0;
+    }
+    errno = (int)error;
+    return 1;
 }
 
 /* Appends to the file that a variable names, if it is set. */
@@ -51,7 +60,7 @@ static FILE *note(const char *variable)
 {
     const char *path = getenv(variable);
 
-    return path == NULL ? NULL : fopen(path, "a");
+    return path == NULL ? NULL : fopen(path, "ae");
 }
 
 static void note_call(const char *name, const unsigned char *bytes, size_t length, off_t offset)
@@ -74,18 +83,36 @@ ssize_t pwrite(int file, const void *bytes, size_t length, off_t offset)
     if (is_chosen()) {
         if (number("KILL_HALF", 0))
             next(file, bytes, length / 2, offset);
-        end_or_hold();
+        if (fails())
+            return -1;
     }
     note_call("pwrite", bytes, length, offset);
     return next(file, bytes, length, offset);
+}
+
+ssize_t pread(int file, void *bytes, size_t length, off_t offset)
+{
+    static int stopped;
+    ssize_t (*next)(int, void *, size_t, off_t) = dlsym(RTLD_NEXT, "pread");
+    ssize_t before, after;
+
+    if (length < IMAGE_AT_LEAST || stopped || !number("KILL_COPY", 0))
+        return next(file, bytes, length, offset);
+    stopped = 1;
+    before = next(file, bytes, READ_BEFORE, offset);
+    kill(getpid(), SIGSTOP);
+    if (before < READ_BEFORE)
+        return before;
+    after = next(file, (char *)bytes + READ_BEFORE, length - READ_BEFORE, offset + READ_BEFORE);
+    return after < 0 ? after : before + after;
 }
 
 static int synced(const char *name, int file)
 {
     int (*next)(int) = dlsym(RTLD_NEXT, name);
 
-    if (is_chosen())
-        end_or_hold();
+    if (is_chosen() && fails())
+        return -1;
     note_call(name, NULL, 0, 0);
     return next(file);
 }
@@ -100,12 +127,22 @@ int fsync(int file)
     return synced("fsync", file);
 }
 
+int unlink(const char *path)
+{
+    int (*next)(const char *) = dlsym(RTLD_NEXT, "unlink");
+
+    if (is_chosen() && fails())
+        return -1;
+    note_call("unlink", NULL, 0, 0);
+    return next(path);
+}
+
 int rename(const char *from, const char *to)
 {
     int (*next)(const char *, const char *) = dlsym(RTLD_NEXT, "rename");
 
-    if (is_chosen())
-        end_or_hold();
+    if (is_chosen() && fails())
+        return -1;
     note_call("rename", NULL, 0, 0);
     return next(from, to);
 }
@@ -116,8 +153,10 @@ int flock(int file, int how)
     int (*next)(int, int) = dlsym(RTLD_NEXT, "flock");
     int done;
 
-    if (++locks == number("KILL_LOCK", 0))
+    if (++locks == number("KILL_LOCK", 0)) {
+        next(file, LOCK_UN);
         kill(getpid(), SIGSTOP);
+    }
     done = next(file, how);
     if (done != 0 && errno == EWOULDBLOCK) {
         FILE *held = note("KILL_HELD");
@@ -129,19 +168,4 @@ int flock(int file, int how)
         errno = EWOULDBLOCK;
     }
     return done;
-}
-
-/* The bytes are moved, since a copy would be this function again. */
-void *memcpy(void *to, const void *from, size_t length)
-{
-    static int stopped;
-
-    if (length >= IMAGE_AT_LEAST && !stopped && number("KILL_COPY", 0)) {
-        stopped = 1;
-        memmove(to, from, COPIED_BEFORE);
-        kill(getpid(), SIGSTOP);
-        memmove((char *)to + COPIED_BEFORE, (const char *)from + COPIED_BEFORE, length - COPIED_BEFORE);
-        return to;
-    }
-    return memmove(to, from, length);
 }

@@ -1,0 +1,258 @@
+/* The store of examples/store.h while calls of the system fail: each call of each operation, one after the other
+ * (store_wrapped.h).
+ *
+ * usage: store_failures FOLDER
+ *   FOLDER is an empty folder, where the files are made. */
+#define _DEFAULT_SOURCE /* flock, and POSIX under -std=c11 */
+
+#include <errno.h>
+#include <signal.h>
+#include <stdbool.h>
+#include <stdio.h>
+#include <stdlib.h>
+#include <string.h>
+#include <unistd.h>
+
+#include "store_wrapped.h"
+
+static const slc1_options OPTIONS = {12, 20, 512, 1, 0, 0};
+
+/* The operations, on the file "cache". Each gives back its answer, with errno as the store left it. */
+
+static uint32_t with_errno(uint32_t answer, int error)
+{
+    errno = error;
+    return answer;
+}
+
+static uint32_t create(const struct store_records *records)
+{
+    (void)records;
+    return store_create("cache", &OPTIONS);
+}
+
+static uint32_t read_twice(const struct store_records *records)
+{
+    struct store_reader reader;
+    uint32_t answer = store_open_reader(&reader, "cache", &OPTIONS, STORE_VERIFY);
+    int error = errno;
+
+    (void)records;
+    for (int turn = 0; turn < 2 && answer == SLC1_DONE; turn++) {
+        answer = store_read(&reader);
+        error = errno;
+        if (answer != SLC1_DONE || turn == 1)
+            store_close_reader(&reader);
+    }
+    return with_errno(answer, error);
+}
+
+static uint32_t written(const struct store_records *records,
+                        uint32_t (*call)(struct store_writer *, const struct store_records *))
+{
+    struct store_writer writer;
+    uint32_t answer = store_open_writer(&writer, "cache", &OPTIONS);
+    int error;
+
+    if (answer != SLC1_DONE)
+        return answer;
+    answer = call(&writer, records);
+    error = errno;
+    store_close_writer(&writer);
+    return with_errno(answer, error);
+}
+
+static uint32_t update(const struct store_records *records)
+{
+    return written(records, store_update);
+}
+
+static uint32_t rebuild(const struct store_records *records)
+{
+    return written(records, store_rebuild);
+}
+
+/* Where an operation begins, and where it ends if nothing fails. */
+struct work {
+    const char *name;
+    uint32_t (*run)(const struct store_records *records);
+    const struct bytes *before; /* NULL: no file */
+    struct bytes after;
+};
+
+static struct store_records some;
+
+static void prepare(const struct work *work)
+{
+    unlink("cache");
+    unlink("cache.new");
+    if (work->before != NULL) {
+        write_file("cache", work->before->bytes, work->before->length);
+        holds(geteuid() != 0 || chown("cache", 1234, 4321) == 0); /* a rebuild has an owner to keep */
+    }
+}
+
+/* Runs the work with a failure, and gives back its answer. Nothing of the process is left behind. */
+static uint32_t run(const struct work *work, enum how how, long chosen)
+{
+    int before = descriptors(), error;
+    sigset_t mask;
+    uint32_t answer;
+
+    snprintf(doing, sizeof doing, "(%s, failure %d at call %ld)", work->name, (int)how, chosen);
+    prepare(work);
+    arm(how, chosen);
+    errno = 0;
+    answer = work->run(&some);
+    error = errno;
+    plan.armed = false;
+    same(before, descriptors());
+    same(0, count_held());
+    holds(sigprocmask(SIG_SETMASK, NULL, &mask) == 0 && !sigismember(&mask, SIGINT) && !sigismember(&mask, SIGPIPE));
+    holds(access("cache.new", F_OK) != 0);
+    holds(answer != STORE_FAILED || error == plan.error);
+    return answer;
+}
+
+static bool is_done(const struct work *work)
+{
+    return access("cache", F_OK) == 0 && is_contents("cache", &work->after);
+}
+
+static bool is_untouched(const struct work *work)
+{
+    return work->before == NULL ? access("cache", F_OK) != 0 : is_contents("cache", work->before);
+}
+
+/* What a dead writer left may be struck out, its generation made odd, and nothing else. */
+static bool is_struck_out(const struct work *work)
+{
+    bool is;
+
+    if (work->before == NULL || access("cache", F_OK) != 0)
+        return false;
+    flip("cache", SLC1_GENERATION_AT);
+    is = is_untouched(work);
+    flip("cache", SLC1_GENERATION_AT);
+    return is && contents_answer("cache", &OPTIONS) == SLC1_NEEDS_REBUILD;
+}
+
+static size_t owners; /* that a new file could not be given to */
+
+/* A failure ends in the number for it, and in the file as it was, or done, or (an update) in need of a rebuild. */
+static void ends_well(const struct work *work, uint32_t answer)
+{
+    holds(answer == SLC1_DONE || answer == (plan.kind == OWNER ? STORE_OTHER_OWNER : STORE_FAILED));
+    owners += answer == STORE_OTHER_OWNER;
+    if (answer == SLC1_DONE) /* tried again */
+        holds(is_done(work));
+    else if (work->before == NULL)
+        holds(is_untouched(work));
+    else
+        holds(is_untouched(work) || is_done(work) || is_struck_out(work) ||
+              (work->run == update && contents_answer("cache", &OPTIONS) == SLC1_NEEDS_REBUILD));
+}
+
+static size_t failures;
+
+/* Each call of the work fails once; then the disk is full from each on; then each is interrupted, or does half. */
+static void fail_each(struct work *work)
+{
+    long calls;
+
+    same(SLC1_DONE, run(work, ONCE, 0));
+    calls = plan.calls;
+    holds(calls > 5);
+    work->after = contents("cache");
+    for (long chosen = 1; chosen <= calls; chosen++) {
+        for (enum how how = ONCE; how <= FROM_THEN_ON; how++, failures++)
+            ends_well(work, run(work, how, chosen));
+        for (enum how how = INTERRUPTED; how <= SHORTENED; how++) {
+            same(SLC1_DONE, run(work, how, chosen));
+            holds(is_done(work));
+        }
+    }
+    free(work->after.bytes);
+}
+
+/* A file with changes in the first half of its bytes and in the second. */
+static struct bytes updated(const struct bytes *before)
+{
+    struct store_records many = puts_of(&OPTIONS, OPTIONS.slot_capacity, 2);
+    struct bytes after;
+
+    write_file("cache", before->bytes, before->length);
+    same(SLC1_DONE, update(&many));
+    after = contents("cache");
+    holds(memcmp(before->bytes + after.length / 2, after.bytes + after.length / 2, after.length / 2) != 0);
+    free(many.bytes);
+    return after;
+}
+
+/* A reader that stays open, whose copy breaks off when the file has changed: the next one is whole. */
+static void broken_copies(const struct bytes *before)
+{
+    struct bytes after = updated(before);
+    struct store_reader reader;
+    uint32_t answer;
+    long chosen = 0;
+
+    do {
+        write_file("cache", before->bytes, before->length);
+        same(SLC1_DONE, store_open_reader(&reader, "cache", &OPTIONS, 0));
+        same(SLC1_DONE, store_read(&reader));
+        write_file("cache", after.bytes, after.length);
+        arm(BROKEN_OFF, ++chosen);
+        answer = store_read(&reader);
+        plan.armed = false;
+        holds(answer == SLC1_DONE || (answer == STORE_FAILED && plan.error != 0));
+        if (answer == STORE_FAILED)
+            same(SLC1_DONE, store_read(&reader));
+        holds(reader.image.length == after.length && memcmp(reader.image.bytes, after.bytes, after.length) == 0);
+        store_close_reader(&reader);
+        failures += plan.error != 0;
+    } while (plan.calls >= chosen);
+    free(after.bytes);
+}
+
+/* Where others hold the lock, a writer gives up, and a reader goes by what it sees. */
+static void locked(const struct bytes *good)
+{
+    struct work reading = {"read", read_twice, good, {NULL, 0}}, updating = {"update", update, good, {NULL, 0}},
+                rebuilding = {"rebuild", rebuild, good, {NULL, 0}};
+
+    same(SLC1_DONE, run(&reading, LOCKED, 0));
+    same(SLC1_BUSY, run(&updating, LOCKED, 0));
+    same(SLC1_BUSY, run(&rebuilding, LOCKED, 0));
+    holds(is_untouched(&rebuilding));
+}
+
+int main(int count, char **words)
+{
+    struct bytes empty = {(uint8_t *)"", 0}, good, dirty;
+
+    if (count != 2 || chdir(words[1]) != 0)
+        return 64;
+    some = puts_of(&OPTIONS, 100, 1);
+    holds(store_create("cache", &OPTIONS) == SLC1_DONE && update(&some) == SLC1_DONE);
+    good = contents("cache");
+    dirty = contents("cache");
+    dirty_image(&dirty, &OPTIONS);
+    free(some.bytes);
+    some = puts_of(&OPTIONS, 100, 2);
+    struct work works[] = {{"create", create, NULL, {NULL, 0}},     {"create", create, &empty, {NULL, 0}},
+                           {"read", read_twice, &good, {NULL, 0}},  {"update", update, &good, {NULL, 0}},
+                           {"rebuild", rebuild, &good, {NULL, 0}},  {"rebuild", rebuild, &empty, {NULL, 0}},
+                           {"rebuild", rebuild, &dirty, {NULL, 0}}};
+
+    for (size_t i = 0; i < COUNT(works); i++)
+        fail_each(&works[i]);
+    broken_copies(&good);
+    locked(&good);
+    holds(geteuid() != 0 || owners > 0);
+    free(some.bytes);
+    free(good.bytes);
+    free(dirty.bytes);
+    printf("the store survives: %zu failures, %zu comparisons\n", failures, comparisons);
+    return 0;
+}

@@ -1,0 +1,143 @@
+/* What the tests of the store share: facts that must hold, files, records. */
+#ifndef STORE_TOOLS_H
+#define STORE_TOOLS_H
+
+#include <dirent.h>
+#include <fcntl.h>
+#include <inttypes.h>
+#include <stdbool.h>
+#include <stdio.h>
+#include <stdlib.h>
+#include <string.h>
+#include <sys/stat.h>
+#include <unistd.h>
+
+#include "slc1.h"
+#include "store.h"
+
+#define COUNT(list) (sizeof(list) / sizeof *(list))
+
+static size_t comparisons;
+static char doing[100]; /* said where a fact does not hold */
+
+#define holds(fact) require((fact), #fact, __FILE__, __LINE__)
+#define same(wanted, got) require_same((uint64_t)(wanted), (uint64_t)(got), #got, __FILE__, __LINE__)
+
+static inline void require(bool fact, const char *what, const char *file, int line)
+{
+    comparisons++;
+    if (!fact) {
+        fprintf(stderr, "%s:%d: not %s %s\n", file, line, what, doing);
+        exit(1);
+    }
+}
+
+static inline void require_same(uint64_t wanted, uint64_t got, const char *what, const char *file, int line)
+{
+    if (wanted != got)
+        fprintf(stderr, "%s: %" PRIu64 ", wanted %" PRIu64 "\n", what, got, wanted);
+    require(wanted == got, what, file, line);
+}
+
+/* The number of open descriptors. */
+static inline int descriptors(void)
+{
+    DIR *folder = opendir("/proc/self/fd");
+    int count = 0;
+
+    holds(folder != NULL);
+    while (readdir(folder) != NULL)
+        count++;
+    closedir(folder);
+    return count;
+}
+
+struct bytes {
+    uint8_t *bytes;
+    size_t length;
+};
+
+static inline struct bytes contents(const char *path)
+{
+    struct bytes all = {NULL, 0};
+    int file = open(path, O_RDONLY);
+    struct stat status;
+
+    holds(file >= 0 && fstat(file, &status) == 0);
+    all.length = (size_t)status.st_size;
+    all.bytes = malloc(all.length + 1);
+    holds(all.bytes != NULL && read(file, all.bytes, all.length) == (ssize_t)all.length);
+    close(file);
+    return all;
+}
+
+static inline bool is_contents(const char *path, const struct bytes *wanted)
+{
+    struct bytes all = contents(path);
+    bool is = all.length == wanted->length && memcmp(all.bytes, wanted->bytes, all.length) == 0;
+
+    free(all.bytes);
+    return is;
+}
+
+static inline void write_file(const char *path, const void *bytes, size_t length)
+{
+    int file = open(path, O_WRONLY | O_CREAT | O_TRUNC, 0666);
+
+    holds(file >= 0 && write(file, bytes, length) == (ssize_t)length && close(file) == 0);
+}
+
+/* Changes the lowest bit of one byte of a file. */
+static inline void flip(const char *path, off_t place)
+{
+    int file = open(path, O_RDWR);
+    uint8_t byte;
+
+    holds(file >= 0 && pread(file, &byte, 1, place) == 1);
+    byte ^= 1;
+    holds(pwrite(file, &byte, 1, place) == 1 && close(file) == 0);
+}
+
+/* The open check's answer for what a file holds, with no writer known. */
+static inline uint32_t contents_answer(const char *path, const slc1_options *options)
+{
+    struct bytes all = contents(path);
+    uint32_t answer = slc1_open_check(all.bytes, all.length, SLC1_OPTIONS(options));
+
+    free(all.bytes);
+    return answer;
+}
+
+/* Makes an image DIRTY, as a writer does that then dies. */
+static inline void dirty_image(struct bytes *image, const slc1_options *options)
+{
+    slc1_options held = *options;
+
+    held.role = SLC1_LOCK_HELD;
+    same(SLC1_DONE, slc1_begin(image->bytes, image->length, SLC1_OPTIONS(&held)));
+}
+
+static inline size_t record_size(const slc1_options *options)
+{
+    return SLC1_RECORD_SIZE(options->key_size, options->index_size);
+}
+
+/* Puts with keys in order, one revision, and an index of one letter. */
+static inline struct store_records puts_of(const slc1_options *options, size_t count, int64_t revision)
+{
+    struct store_records records = {(uint8_t *)calloc(count + 1, record_size(options)), count};
+
+    holds(records.bytes != NULL);
+    for (size_t i = 0; i < count; i++) {
+        uint8_t *record = records.bytes + i * record_size(options);
+
+        record[0] = 1;
+        snprintf((char *)record + SLC1_KEY_AT, options->key_size, "key %06zu", i);
+        for (int byte = 0; byte < 8; byte++)
+            record[SLC1_REVISION_AT(options->key_size) + byte] = (uint8_t)((uint64_t)revision >> 8 * byte);
+        record[SLC1_INDEX_AT(options->key_size)] = (uint8_t)('a' + i % 26);
+    }
+    return records;
+}
+
+#endif
