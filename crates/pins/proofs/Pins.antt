@@ -6,7 +6,7 @@ use native.Mathlib.Decide.{decLe}
 use native.Mathlib.Nat.{two-pow-succ}
 use native.Mathlib.Omega.{arith}
 use lib.Pow.{pow-pos, pow-mono}
-use Rattle.numbers.specs.Bytes.{word, bytesOf, below}
+use Rattle.numbers.specs.Bytes.{word, bytesOf, put, below}
 use Rattle.numbers.specs.Signed.{signed}
 use Rattle.digests.specs.Fnv.{fnvFrom, fnv1a64}
 use Rattle.digests.specs.Crc.{crcBit, crcBits, crcFrom, crc32c}
@@ -17,6 +17,7 @@ use Rattle.header.specs.Sizes.{sizesAllowed, align8, slotSize, powerFrom, bucke
 use Rattle.header.proofs.SizeLaws.{bucket-count-power, bucket-count-low, bucket-count-high}
 use Rattle.listing.specs.Match.{bitAt, agrees}
 use Rattle.host.specs.Places.{placeIn, keyPlace, indexPlace}
+use Rattle.host.specs.Results.{reportOf, wordOf, lookupReport, checkReport, listedReport}
 use Rattle.pins.specs.Pins.{Pins}
 
 -- a power of two below twice another is at most that one
@@ -36,7 +37,7 @@ smallest capacity k h =
     ]
 
 pub pins : Pins
-unfolding word bytesOf below signed fnvFrom fnv1a64 crcBit crcBits crcFrom crc32c allTo firstOf test1 sizesAllowed align8 slotSize bitAt agrees placeIn keyPlace indexPlace
+unfolding word bytesOf put below signed fnvFrom fnv1a64 crcBit crcBits crcFrom crc32c allTo firstOf test1 sizesAllowed align8 slotSize bitAt agrees placeIn keyPlace indexPlace reportOf wordOf lookupReport checkReport listedReport
 pins =
     record {
       word-of = refl;
@@ -59,4 +60,9 @@ pins =
       index-place = refl;
       offset-bits = refl;
       offset-bits-not = refl;
+      results-found = refl;
+      results-absent = refl;
+      results-short = refl;
+      results-checked = refl;
+      results-listed = refl;
     }

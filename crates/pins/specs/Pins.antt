@@ -14,7 +14,24 @@ use Rattle.header.specs.Fields.{SLC1}
 use Rattle.header.specs.Sizes.{most-slot-capacity, bucketCount}
 use Rattle.listing.specs.Match.{agrees}
 use Rattle.host.specs.Places.{keyPlace, indexPlace}
+use Rattle.host.specs.Results.{reported, lookupReport, checkReport, listedReport}
+use Rattle.image.specs.declared.check.Checked.{Checked}
+use Rattle.image.specs.declared.lookup.Lookup.{Lookup}
+use Rattle.listing.specs.declared.listed.Listed.{Listed}
 use Rattle.demands.specs.Examples.{bench}
+
+-- a key of slot 3, with revision -7, found in the second bucket; one that is not there; a full check; a listing
+abbrev pub third : Lookup
+third = record { answer = 0; slot = 3; revision = negsuc 6; buckets = 2 }
+
+abbrev pub absent : Lookup
+absent = record { answer = 9; slot = 0; revision = pos 0; buckets = 4 }
+
+abbrev pub checked : Checked
+checked = record { answer = 0; live = 6; tombstones = 1; probes = 9 }
+
+abbrev pub listed : Listed
+listed = record { answer = 0; total = 6; written = 2 }
 
 pub record Pins : Type 0 where
   -- "little-endian": the first byte is the lowest
@@ -46,3 +63,10 @@ pub record Pins : Type 0 where
   -- "a number of bits, most significant first, from a byte offset in the key"
   pub offset-bits : agrees 1 3 (0xA0 ∷ []) (0xFF ∷ 0xBF ∷ []) ≡ true
   pub offset-bits-not : agrees 1 3 (0xA0 ∷ []) (0xA0 ∷ 0x1F ∷ []) ≡ false
+  -- all numbers of a call in one list: answer, slot, revision as two's complement, buckets; with 9 too; answer, live, tombstones,
+  -- probes; answer, total, written. The entry behind them stays, and a list that is too short is left alone
+  pub results-found : lookupReport third (5 ∷ 5 ∷ 5 ∷ 5 ∷ 5 ∷ []) ≡ reported 0 (0 ∷ 3 ∷ (2 ^ 64 - 7) ∷ 2 ∷ 5 ∷ [])
+  pub results-absent : lookupReport absent (5 ∷ 5 ∷ 5 ∷ 5 ∷ []) ≡ reported 9 (9 ∷ 0 ∷ 0 ∷ 4 ∷ [])
+  pub results-short : lookupReport third (5 ∷ 5 ∷ 5 ∷ []) ≡ reported 11 (5 ∷ 5 ∷ 5 ∷ [])
+  pub results-checked : checkReport checked (5 ∷ 5 ∷ 5 ∷ 5 ∷ []) ≡ reported 0 (0 ∷ 6 ∷ 1 ∷ 9 ∷ [])
+  pub results-listed : listedReport listed (5 ∷ 5 ∷ 5 ∷ []) ≡ reported 0 (0 ∷ 6 ∷ 2 ∷ [])
