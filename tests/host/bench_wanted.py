@@ -7,6 +7,7 @@ import second
 from bench_tools import (
     ADVICE, BATCH, GENERATION, HEADING, NEW, OLD, OPTIONS, SENTENCES, TOTAL, Certificate, holds, read, same, says, write,
     write_certificates)
+from images import record_of
 
 # Images.
 
@@ -62,8 +63,7 @@ def marked(image):
 # What the second program makes of an image.
 
 def record(c):
-    body = (1).to_bytes(8, "little") + c.serial.encode() + bytes(4) + c.revision.to_bytes(8, "little", signed=True)
-    return (body + c.gain.encode()).ljust(second.slot_size(OPTIONS), b"\0")
+    return record_of(OPTIONS, True, c.serial.encode(), c.revision, c.gain.encode())
 
 
 def stored(image, certificates):

@@ -12,6 +12,7 @@ sys.path += [sys.path[0] + "/../docs", sys.path[0] + "/../second"]
 
 import readme
 import second
+from images import record_of
 
 BENCH = second.Options(12, 20, 512, 1, 0, 2)
 STRICT = ("-Wall", "-Wextra", "-Werror")
@@ -25,9 +26,7 @@ def same(what, found, wanted):
 
 def record(certificate):
     serial, revision, gain = certificate.split(",")
-    head = (1).to_bytes(8, "little") + serial.encode()
-    body = head.ljust(second.revision_offset(BENCH), b"\0") + int(revision).to_bytes(8, "little", signed=True) + gain.encode()
-    return body.ljust(second.slot_size(BENCH), b"\0")
+    return record_of(BENCH, True, serial.encode(), int(revision), gain.encode())
 
 
 def cache():

@@ -9,6 +9,13 @@ COLLISIONS = [
 ]
 
 
+def record_of(o, put, key, revision, index):
+    """A record of a batch, laid out as a slot; the index may be shorter than it is there."""
+    head = int(put).to_bytes(8, "little") + key
+    body = head.ljust(second.revision_offset(o), b"\0") + revision.to_bytes(8, "little", signed=True) + index
+    return body.ljust(second.slot_size(o), b"\0")
+
+
 class Images:
     def __init__(self, random):
         self.random = random
@@ -38,9 +45,7 @@ class Images:
         key = self.key(o) if key is None else key
         put = self.random.random() < 0.7 if put is None else put
         revision, index = (self.revision(), self.random.randbytes(o.index_size)) if put else (0, bytes(o.index_size))
-        head = int(put).to_bytes(8, "little") + key
-        body = head.ljust(second.revision_offset(o), b"\0") + revision.to_bytes(8, "little", signed=True) + index
-        return body.ljust(second.slot_size(o), b"\0")
+        return record_of(o, put, key, revision, index)
 
     def batch(self, o, most=4):
         return b"".join(self.record(o) for _ in range(self.random.randrange(most + 1)))
