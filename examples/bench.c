@@ -7,6 +7,7 @@
 #include <inttypes.h>
 #include <limits.h>
 #include <poll.h>
+#include <signal.h>
 #include <stdarg.h>
 #include <stdbool.h>
 #include <stdio.h>
@@ -32,11 +33,11 @@ static const char USAGE[] =
     "       bench drop FILE SERIAL                  delete one certificate\n"
     "       bench --help, bench --version\n"
     "\n"
-    "Right after load or rebuild, --older takes certificates that are not newer than those in the cache; right after load,\n"
-    "--progress shows how far it is, as on a terminal.\n"
+    "Right after load or rebuild, --older takes certificates that are older than the cache's or than an earlier line's, or\n"
+    "have another gain for the cache's revision; right after load, --progress shows how far it is, as on a terminal.\n"
     "\n"
     "CERTIFICATES.csv has lines serial,revision,gain, each with a line feed: a serial of 12 characters; a whole number; and\n"
-    "a number of 1 to 20 characters, digits with or without a sign and a point, such as +21.523.\n"
+    "a number of 1 to 20 characters, digits with or without a sign, and perhaps a point with digits on both sides.\n"
     "\n"
     "exit status: 0 done, found or the same, 1 needs rebuild or (compare) not the same, 2 incompatible, 3 invalidated,\n"
     "             4 busy, 5 full, 7 invalid input, 9 not present, 10 empty file, 64 wrong usage, 74 input or output failed\n";
@@ -113,12 +114,14 @@ static void warn_of_checksum(const struct store_image *image, const char *path)
         fprintf(stderr, "bench: %s has a wrong checksum: bytes have changed since they were written\n", path);
 }
 
-/* More serials than slots, or as many as there are slots with the deleted ones. */
-static _Noreturn void refuse_full(const char *path, size_t serials)
+/* More serials than slots; or no more, but with those that are deleted. */
+static _Noreturn void refuse_full(const char *path, size_t serials, uint64_t live)
 {
     if (serials > SLOT_CAPACITY)
         fail(SLC1_FULL, "%s is full: it has %d slots, and %zu serials are too many by %zu: drop those that are no longer in "
              "use, or keep some in a second cache", path, SLOT_CAPACITY, serials, serials - SLOT_CAPACITY);
+    if (live == 0)
+        fail(SLC1_FULL, "%s is full of deleted certificates, which keep their slots: run bench rebuild", path);
     fail(SLC1_FULL, "%s is full: deleted certificates keep their slots. To free these, run bench export %s ALL.csv and bench "
          "rebuild %s ALL.csv, and then load again", path, path, path);
 }
@@ -442,7 +445,7 @@ static int load(char **words)
         writer.progress = show_progress;
     answer = store_update(&writer, &all.records);
     if (answer == SLC1_FULL)
-        refuse_full(words[0], live(&writer) + certificates_count(&all, &writer.image));
+        refuse_full(words[0], live(&writer) + certificates_count(&all, &writer.image), live(&writer));
     if (answer == SLC1_DONE)
         printf("%zu certificate%s loaded, %" PRIu64 " live\n", all.records.count, plural(all.records.count), live(&writer));
     store_close_writer(&writer);
@@ -458,7 +461,7 @@ static int rebuild(char **words)
     uint32_t answer = store_rebuild(&writer, &all.records);
 
     if (answer == SLC1_FULL)
-        refuse_full(words[0], count);
+        refuse_full(words[0], count, 0);
     if (answer == SLC1_DONE)
         printf("%s rebuilt: %zu certificate%s\n", words[0], count, plural(count));
     store_close_writer(&writer);
@@ -554,6 +557,7 @@ int main(int count, char **words)
     int status;
 
     open_standard_descriptors();
+    signal(SIGXFSZ, SIG_IGN); /* a write past a limit fails, and is answered */
     status = run_words(words + (count > 0));
     if (fflush(stdout) != 0 || ferror(stdout))
         fail_io("standard output", "write");

@@ -1,5 +1,7 @@
 /* store.c: SLC1 images in files. store.h says what for, and who holds which lock. */
+#ifndef _DEFAULT_SOURCE
 #define _DEFAULT_SOURCE /* flock, and POSIX under -std=c11 */
+#endif
 
 #include <errno.h>
 #include <fcntl.h>
@@ -612,10 +614,14 @@ static uint32_t remove_leftover(const char *new_path)
     uint8_t first[sizeof MAGIC];
     ssize_t length;
     int file;
-    uint32_t answer = open_file(&file, new_path, O_RDONLY, 0);
+    uint32_t answer = open_file(&file, new_path, O_RDONLY | O_NOFOLLOW, 0);
 
+    if (answer == STORE_FAILED && errno == ENOENT)
+        return SLC1_DONE;
+    if (answer == STORE_NOT_REGULAR || (answer == STORE_FAILED && errno == ELOOP)) /* or a symbolic link */
+        return STORE_IN_THE_WAY;
     if (answer != SLC1_DONE)
-        return answer == STORE_FAILED && errno == ENOENT ? (uint32_t)SLC1_DONE : answer;
+        return answer;
     length = read_at(file, first, sizeof first, 0);
     close_file(file);
     if (length < 0)
@@ -674,7 +680,8 @@ static uint32_t replace_file(const struct store_writer *writer)
         answer = STORE_FAILED;
     if (answer == SLC1_DONE)
         return sync_folder(real_path);
-    remove_file(new_path);
+    if (errno != EEXIST) /* another's */
+        remove_file(new_path);
     return answer;
 }
 
@@ -695,6 +702,7 @@ uint32_t store_rebuild(struct store_writer *writer, const struct store_records *
     hold_signals(&before);
     answer = replace_file(writer);
     let_signals(&before);
+    image->length = 0; /* the writer's own file has no name any more, so an update is refused */
     return answer;
 }
 

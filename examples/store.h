@@ -1,17 +1,20 @@
-/* store.h: SLC1 images in files that several processes read and write. For a host of slc1.h, in C11 or C++ and POSIX.
+/* store.h: SLC1 images in files that several processes read and write. For a host of slc1.h, in C or C++ and POSIX; store.c
+ * itself is C11.
  *
  * The library works on lent bytes that stand still. The store lends it private copies, and does what the library leaves
  * to its host: files, locks, syncing, readers beside a writer, and a checksum over slots and buckets. Every program that
  * touches a file goes through the store.
  *
- * Answers. Each call gives back a number of slc1.h, or one of the store's own. None ends the process or prints.
+ * Answers. Each call gives back a number of slc1.h, or one of the store's own. None ends the process or prints. (Where file
+ * sizes are limited, the signal XFSZ does, unless the host ignores it.)
  *
  * Locks. A writer holds the file's exclusive lock from before begin until after checkpoint. A reader that gets the
  * shared lock therefore knows that no writer is active (role 0), and one that does not knows that one is (role 1). Only
  * the holder of the exclusive lock of the file that FILE names may replace that file, and only it touches FILE.new.
  *
  * Ends. Whenever the process ends or a call fails, the file is as it was, or it needs a rebuild, or the work is done.
- * From begin to checkpoint, and while a file is made or replaced, the signals INT, TERM, HUP and PIPE wait.
+ * From begin to checkpoint, and while a file is made or replaced, the signals INT, TERM, HUP and PIPE wait in the thread that
+ * calls; a host with further threads blocks them there.
  *
  * Checksum. SLC1 has none over slots and buckets. The store keeps one in the first 16 of the 64 bytes of user data: the
  * mark "slotsCRC", the CRC32-C of all bytes behind the header as a u64. It is renewed before each checkpoint, and holds
@@ -41,7 +44,8 @@ enum {
     STORE_IN_THE_WAY = 37   /* FILE.new is there, and is not what a rebuild left */
 };
 
-/* A sentence for an answer, of the store or of slc1.h. */
+/* What is to be said of an answer: from STORE_NOT_REGULAR on what the file is or has, to stand behind its name; else a
+ * sentence. */
 const char *store_text(uint32_t answer);
 
 /* What is known of a checksum. */
@@ -70,19 +74,19 @@ struct store_reader {
     int file; /* the file that was copied, or -1 */
 };
 
-/* Up to this many bytes the checksum is made with every read, in less than a millisecond. */
+/* Up to this many bytes the checksum is made with every copy, in less than a millisecond on the machine measured. */
 enum { STORE_SMALL = 256 * 1024 };
 
-/* A flag: the checksum of a larger image is made too. For a process that stays open. */
+/* A flag: the checksum of a larger image is made too. For a process that stays open, once for each copy that it makes. */
 enum { STORE_VERIFY = 1 };
 
-/* Makes a reader, with no copy yet; flags is 0 or STORE_VERIFY. The caller keeps the path and, where the answer is
- * SLC1_DONE, closes the reader. SLC1_INVALID_INPUT where the options are out of range. */
+/* Makes a reader, with no copy yet; flags is 0 or STORE_VERIFY. Where the answer is SLC1_DONE the caller closes the reader,
+ * and keeps the path until then. SLC1_INVALID_INPUT where the options are out of range. */
 uint32_t store_open_reader(struct store_reader *reader, const char *path, const slc1_options *options, int flags);
 
 /* Copies what the file holds at one moment. A copy that is CLEAN is kept where the file still has the same header. The
  * answer is that of slc1_open_check, or SLC1_NEEDS_REBUILD where the checksum is wrong; SLC1_BUSY where writers leave no
- * such moment for a quarter of a second. */
+ * such moment for a quarter of a second. From STORE_FAILED on the image is an earlier copy, or of length 0. */
 uint32_t store_read(struct store_reader *reader);
 
 void store_close_reader(struct store_reader *reader);
@@ -93,7 +97,8 @@ struct store_records {
     size_t count;
 };
 
-/* A file that this process alone may write. The host may read the image and set progress; the rest is the store's. */
+/* A file that this process alone may write. The host may read the image and, once it is open, set progress; the rest is the
+ * store's. */
 struct store_writer {
     struct store_image image;
     void (*progress)(size_t done, size_t all); /* called after each commit, unless it is NULL */

@@ -6,7 +6,8 @@
  *
  * A slice is a pointer and a length. The pointer must not be NULL, not even where the length is 0. Slices lent to one call
  * do not overlap where one of them is written. Nothing is kept between calls: what is lent is the caller's own again when
- * the call returns. No call allocates, blocks or fails otherwise than by the number that it gives back.
+ * the call returns. No call allocates, blocks or fails otherwise than by the number that it gives back. Calls may run side by
+ * side in several threads where none writes what another is lent.
  *
  * Lent bytes stand still during a call. A shared mapping that another process may write is copied first, and the copy
  * lent.
@@ -20,8 +21,8 @@
 #include <stdint.h>
 #include <string.h>
 
-/* The version. With another major number a host is to be built anew, or changed first: the shared object's name has it.
- * SLC1_VERSION is "major.minor.patch". */
+/* The version. A host that was built for one major number does not run with another: it is built anew, and may need changes.
+ * The shared object's name has that number. SLC1_VERSION is "major.minor.patch". */
 #define SLC1_VERSION_MAJOR 1
 #define SLC1_VERSION_MINOR 0
 #define SLC1_VERSION_PATCH 0
@@ -43,7 +44,7 @@ enum {
     SLC1_BUSY = 4,          /* another writer is active */
     SLC1_FULL = 5,          /* no slots left for the new keys */
     SLC1_OUT_OF_ORDER = 6,  /* a new key below the last of an ordered image */
-    SLC1_INVALID_INPUT = 7, /* options, key, pattern or batch that no call takes */
+    SLC1_INVALID_INPUT = 7, /* options, role, key, pattern, batch or user data that the call does not take; or no begin */
     SLC1_NOT_PRESENT = 9,   /* the key is not there */
     SLC1_CREATE_IT = 10,    /* an image of length 0 */
     SLC1_TOO_SHORT = 11     /* a lent output that is too short; nothing was written */
@@ -165,7 +166,8 @@ uint32_t slc1_full_check_results(
     const uint8_t *image, size_t length, SLC1_SIX_NUMBERS, uint64_t *results, size_t results_count);
 
 /* Scan: the live slots, ascending. The first skip of them are left out, and at most limit are written to numbers, a list
- * of count entries. Entries past those written are unchanged. Each of the four functions fills the list. */
+ * of count entries. Entries past those written are unchanged. Each of the four functions fills the list. With limit 0 nothing
+ * is written, and the total is given. */
 
 /* 0, or 11 where the list is shorter than the number of slots to write. */
 uint32_t slc1_scan(
@@ -239,7 +241,8 @@ uint32_t slc1_begin(uint8_t *image, size_t length, SLC1_SIX_NUMBERS);
 /* When all is synced: DIRTY becomes CLEAN. On CLEAN nothing changes. */
 uint32_t slc1_checkpoint(uint8_t *image, size_t length, SLC1_SIX_NUMBERS);
 
-/* Gives the image up for good: every call answers 3 from then on. 1 where the generation is used up. */
+/* Gives the image up: every call answers 3 from then on, until slc1_create writes over it. On CLEAN and on DIRTY. 1 where the
+ * generation is used up. */
 uint32_t slc1_invalidate(uint8_t *image, size_t length, SLC1_SIX_NUMBERS);
 
 /* Replaces the caller's own flags and data. 7 where the data are not exactly 64 bytes, whatever the role. 7 on CLEAN: begin
@@ -250,7 +253,8 @@ uint32_t slc1_set_user_fields(
 #define SLC1_BATCH_LIMIT 64
 
 /* Commits a batch of 0 to 64 records, one after the other, each laid out as a slot (above). A delete has revision and
- * index zero. The last record for a key decides. 0, or the first reason that holds: the header test's number; 4 or 7 by
+ * index zero. The last record for a key decides. A put on a live key keeps its slot; a delete of a key that is not there is
+ * no error; a deleted key's slot is never used again, not even for that key: only a fresh image has it free. 0, or the first reason that holds: the header test's number; 4 or 7 by
  * the role; 7 on CLEAN (begin first); 1 where the generation is used up; 7 for a batch of another length, over 64 records
  * or with a malformed record; 1 where the full check fails; 5 where the new keys outnumber the slots left; 6 where the
  * image is ordered and a new key is below the key of its last slot. */
@@ -285,7 +289,7 @@ static inline const char *slc1_text(uint32_t answer)
     case SLC1_BUSY: return "another writer is active: try again";
     case SLC1_FULL: return "no slots are left for the new keys";
     case SLC1_OUT_OF_ORDER: return "a new key is below the last of an ordered image";
-    case SLC1_INVALID_INPUT: return "options, key, pattern or batch are such as no call takes";
+    case SLC1_INVALID_INPUT: return "the call does not take these options, role, key, pattern, batch or user data, or begin is missing";
     case SLC1_NOT_PRESENT: return "the key is not there";
     case SLC1_CREATE_IT: return "the image has length 0: create it";
     case SLC1_TOO_SHORT: return "a lent output is too short";
@@ -311,7 +315,7 @@ static inline void slc1_put_word(uint8_t *bytes, uint64_t word)
 }
 
 /* The index bytes of a key, in the image, where it is found; else NULL. Answer, slot, revision and buckets are those of
- * slc1_lookup_results; each pointer may be NULL. */
+ * slc1_lookup_results; each of these four pointers may be NULL. */
 static inline const uint8_t *slc1_get(
     const uint8_t *image, size_t length, const slc1_options *options, const uint8_t *key, size_t key_length,
     uint32_t *answer, uint64_t *slot, int64_t *revision, uint64_t *buckets)

@@ -206,7 +206,6 @@ def interrupted_writes(bench):
 
 def limit_files():
     resource.setrlimit(resource.RLIMIT_FSIZE, (5000, 5000))
-    signal.signal(signal.SIGXFSZ, signal.SIG_IGN)
 
 
 def limited_files(bench):

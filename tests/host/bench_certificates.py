@@ -281,6 +281,16 @@ def deleted_keep_slots(bench):
     same("list", certificates_in(bench.silent("list", "full")), NEW + kept + MORE[100:103] + MORE[212:])
 
 
+def deleted_keep_all_slots(bench):
+    """Where none is live there is nothing to export: a rebuild alone helps."""
+    every = NEW + MORE[:212]
+    write("full", stored(stored(fresh(), every), every, put=False))
+    ran = bench.leaves_alone("full", bench.refused, 5, SENTENCES[5], "load", "full", "new.csv")
+    says(ran, "bench rebuild")
+    holds(f"nothing to export: {ran.err}", "export" not in ran.err)
+    same("rebuild", bench.silent("rebuild", "full", "new.csv"), "full rebuilt: 300 certificates\n")
+
+
 CERTIFICATES_PARTS = (
     prefixes, complaining, wrong_words, line_ends, taking, contradicting, contradicting_among_many, older_in_the_file,
-    older_than_the_cache, dropped_is_not_older, unreadable_is_not_judged, filling, deleted_keep_slots)
+    older_than_the_cache, dropped_is_not_older, unreadable_is_not_judged, filling, deleted_keep_slots, deleted_keep_all_slots)

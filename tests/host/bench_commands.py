@@ -4,6 +4,7 @@ import os
 import pty
 import re
 import socket
+from functools import partial
 
 import second
 from bench_tools import (
@@ -187,6 +188,11 @@ def links_and_modes(bench):
     os.symlink("cache", path_of("link"))
     write("cache.new", b"of one's own")
     bench.leaves_alone("cache.new", bench.refused, 74, "with .new", "rebuild", "cache", "new.csv")
+    os.unlink(path_of("cache.new"))
+    for stand, take_away in ((os.mkdir, os.rmdir), (os.mkfifo, os.unlink), (partial(os.symlink, "nowhere"), os.unlink)):
+        stand(path_of("cache.new"))
+        bench.leaves_alone("cache", bench.refused, 74, "with .new", "rebuild", "cache", "new.csv")
+        take_away(path_of("cache.new"))
     write("cache.new", b"SLC1 left behind")
     bench.done("rebuild", "link", "new.csv")
     holds("the link is still one", os.path.islink(path_of("link")))

@@ -62,16 +62,16 @@ def marked(image):
 
 # What the second program makes of an image.
 
-def record(c):
-    return record_of(OPTIONS, True, c.serial.encode(), c.revision, c.gain.encode())
+def record(c, put):
+    return record_of(OPTIONS, put, c.serial.encode(), c.revision if put else 0, c.gain.encode() if put else b"")
 
 
-def stored(image, certificates):
-    """The image after a load of certificates: a begin, commits, the mark in the user data, and a checkpoint."""
+def stored(image, certificates, put=True):
+    """The image after a load, or a drop, of certificates: a begin, commits, the mark in the user data, and a checkpoint."""
     image, held = bytearray(image), OPTIONS._replace(role=2)
     answers = [second.begin(image, held)]
     for at in range(0, len(certificates), BATCH):
-        answers.append(second.commit(image, held, b"".join(map(record, certificates[at:at + BATCH]))))
+        answers.append(second.commit(image, held, b"".join(record(c, put) for c in certificates[at:at + BATCH])))
     _, flags, data = second.open_check(image, held)
     answers += [second.set_user_fields(image, held, flags, mark_of(image) + data[16:]), second.checkpoint(image, held)]
     same("the second program's answers", set(answers), {0})

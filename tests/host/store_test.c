@@ -125,6 +125,24 @@ static void records_that_are_refused(void)
     free(records.bytes);
 }
 
+/* A writer that has rebuilt can only be closed: what it would update is a file without a name. */
+static void update_after_a_rebuild(void)
+{
+    struct store_records records = puts_of(&SMALL, 3, 1);
+    struct store_writer writer;
+    struct bytes after;
+
+    same(SLC1_DONE, store_create("rebuilt", &SMALL));
+    same(SLC1_DONE, store_open_writer(&writer, "rebuilt", &SMALL));
+    same(SLC1_DONE, store_rebuild(&writer, &records));
+    after = contents("rebuilt");
+    same(SLC1_CREATE_IT, store_update(&writer, &records));
+    holds(is_contents("rebuilt", &after));
+    store_close_writer(&writer);
+    free(after.bytes);
+    free(records.bytes);
+}
+
 static void hard_links(void)
 {
     struct bytes before;
@@ -177,7 +195,8 @@ static void signals(void)
 int main(int count, char **words)
 {
     static void (*const TESTS[])(void) = {texts, files_of_other_kinds, options_out_of_range, creating,
-                                          records_that_are_refused, hard_links, other_files_are_not_replaced, signals};
+                                          records_that_are_refused, update_after_a_rebuild, hard_links,
+                                          other_files_are_not_replaced, signals};
 
     if (count != 2)
         return 64;

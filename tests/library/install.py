@@ -134,7 +134,7 @@ def packaged(installed):
 
 
 def main():
-    for words in ((), ("",), ("--help",), ("a", "b")):
+    for words in ((), ("",), ("--help",), ("a", "b"), ("a b",)):
         ran = subprocess.run([os.path.join(readme.ROOT, "tools", "install"), *words], stderr=subprocess.PIPE, text=True)
         same(f"called with {words}", (ran.returncode, ran.stderr.split()[:1]), (2, ["usage:"]))
     with tempfile.TemporaryDirectory() as home:
