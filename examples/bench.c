@@ -270,14 +270,11 @@ static int list(char **words)
     return answered(answer, words[0]);
 }
 
-/* Whether the lines, written to a new file, are on the disk. */
-static bool write_lines(const char *path, const struct store_image *image, const struct slots *slots)
+/* Whether the lines are on the disk. Closes the file. */
+static bool write_lines(FILE *file, const struct store_image *image, const struct slots *slots)
 {
-    FILE *file = fopen(path, "wx");
     bool done;
 
-    if (file == NULL)
-        return false;
     show_lines(file, image, slots);
     done = fflush(file) == 0 && !ferror(file) && fsync(fileno(file)) == 0;
     return fclose(file) == 0 && done;
@@ -288,12 +285,17 @@ static void write_file(const char *path, const struct store_image *image, const 
 {
     char new_path[PATH_MAX];
     struct stat status;
+    FILE *file;
     int kept;
 
     if (lstat(path, &status) == 0)
         refuse_existing(path);
-    snprintf(new_path, sizeof new_path, "%s.%ld", path, (long)getpid());
-    if (write_lines(new_path, image, slots) && rename(new_path, path) == 0)
+    if (snprintf(new_path, sizeof new_path, "%s.%ld", path, (long)getpid()) >= (int)sizeof new_path)
+        fail(EXIT_IO, "%s is too long a name", path);
+    file = fopen(new_path, "wx");
+    if (file == NULL)
+        fail_io(new_path, "open");
+    if (write_lines(file, image, slots) && rename(new_path, path) == 0)
         return;
     kept = errno;
     unlink(new_path);
@@ -301,12 +303,16 @@ static void write_file(const char *path, const struct store_image *image, const 
     fail_io(path, "write");
 }
 
+/* Within a load a cache has some of its certificates, which could be taken for all: one that is not CLEAN is busy. */
 static int export(char **words)
 {
     struct store_reader reader;
     struct slots slots;
     uint32_t answer = read_cache(&reader, words[0], 0);
 
+    reader.image.options.role = SLC1_NO_WRITER_KNOWN;
+    if (answer == SLC1_DONE && slc1_open_check(STORE_LENT(&reader.image)) != SLC1_DONE)
+        answer = SLC1_BUSY;
     if (answer == SLC1_DONE)
         answer = scan(&reader.image, &slots);
     if (answer == SLC1_DONE) {

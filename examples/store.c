@@ -32,8 +32,8 @@ const char *store_text(uint32_t answer)
     case STORE_NOT_REGULAR: return "is not a regular file";
     case STORE_EXISTS: return "exists, and is not empty";
     case STORE_HARD_LINKS: return "has other names (hard links), which a rebuild would leave with the old bytes";
-    case STORE_IN_THE_WAY: return "can't be rebuilt: what has its name with .new is not what a rebuild left, move it away";
-    case STORE_OTHER_OWNER: return "belongs to another user, to whom a rebuild can't give the new file";
+    case STORE_IN_THE_WAY: return "can't be rebuilt: its name with .rebuilding is taken by another file, move that away";
+    case STORE_OTHER_OWNER: return "belongs to another user or group, to which a rebuild can't give the new file";
     default: return slc1_text(answer);
     }
 }
@@ -127,23 +127,15 @@ static void remove_file(const char *path)
     errno = kept;
 }
 
-static void remove_empty(const char *path)
-{
-    int kept = errno;
-    struct stat status;
-
-    if (stat(path, &status) == 0 && status.st_size == 0)
-        unlink(path);
-    errno = kept;
-}
-
-/* Opens a regular file, and waits for nobody: a pipe would. */
+/* Opens a regular file, and waits for nobody: a pipe would. SLC1_BUSY where another process has a lease on it. */
 static uint32_t open_file(int *file, const char *path, int flags, mode_t mode)
 {
     struct stat status;
     uint32_t answer = SLC1_DONE;
 
     *file = open(path, flags | O_CLOEXEC | O_NONBLOCK | O_NOCTTY, mode);
+    if (*file < 0 && errno == EWOULDBLOCK)
+        return SLC1_BUSY;
     if (*file < 0)
         return errno == EISDIR || errno == ENXIO ? STORE_NOT_REGULAR : STORE_FAILED;
     if (fstat(*file, &status) != 0)
@@ -245,12 +237,13 @@ static uint32_t read_file(struct store_reader *reader, int file)
     struct store_image *image = &reader->image;
     uint32_t locked = lock(file, LOCK_SH), answer;
 
+    image->length = 0; /* until there is a new copy */
     if (locked == STORE_FAILED)
         return STORE_FAILED;
     image->options.role = locked == SLC1_DONE ? SLC1_NO_WRITER_KNOWN : SLC1_ANOTHER_WRITER;
     answer = copy_file(image, file);
     if (flock(file, LOCK_UN) != 0 || answer != SLC1_DONE) {
-        image->length = 0; /* no copy to keep */
+        image->length = 0;
         return STORE_FAILED;
     }
     answer = slc1_open_check(STORE_LENT(image));
@@ -389,12 +382,16 @@ static uint32_t strike_out(struct store_writer *writer)
     return answer;
 }
 
-/* Whether `path` still names the file that was opened. */
-static bool is_named(const struct store_writer *writer)
+/* SLC1_BUSY where a path no longer names the file that was opened. */
+static uint32_t judge_name(const char *path, int file)
 {
     struct stat named, opened;
 
-    return stat(writer->path, &named) == 0 && fstat(writer->file, &opened) == 0 && is_same_file(&named, &opened);
+    if (stat(path, &named) != 0)
+        return errno == ENOENT ? (uint32_t)SLC1_BUSY : STORE_FAILED;
+    if (fstat(file, &opened) != 0)
+        return STORE_FAILED;
+    return is_same_file(&named, &opened) ? SLC1_DONE : SLC1_BUSY;
 }
 
 /* The exclusive lock of an open file, by way of the shared one; the private copy is then the file's. The shared lock is
@@ -409,8 +406,10 @@ static uint32_t lock_for_writing(struct store_writer *writer)
     if (answer == SLC1_DONE)
         answer = lock(writer->file, LOCK_EX);
     if (answer == SLC1_DONE)
+        answer = judge_name(writer->path, writer->file);
+    if (answer == SLC1_DONE)
         answer = read_whole(writer);
-    if (answer == SLC1_DONE && (!is_named(writer) || is_left_dirty(&writer->image)))
+    if (answer == SLC1_DONE && is_left_dirty(&writer->image))
         answer = SLC1_BUSY;
     return answer;
 }
@@ -465,7 +464,7 @@ void store_close_writer(struct store_writer *writer)
 
 /* Writing. */
 
-/* From the first change to the last, a signal that would end the process waits. */
+/* From the first change to the last, a signal that would end or stop the process waits. */
 static void hold_signals(sigset_t *before)
 {
     sigset_t held;
@@ -475,6 +474,8 @@ static void hold_signals(sigset_t *before)
     sigaddset(&held, SIGTERM);
     sigaddset(&held, SIGHUP);
     sigaddset(&held, SIGPIPE);
+    sigaddset(&held, SIGTSTP);
+    sigaddset(&held, SIGTTOU);
     pthread_sigmask(SIG_BLOCK, &held, before);
 }
 
@@ -608,7 +609,10 @@ static uint32_t take_over(int new_file, int old_file)
     return fchmod(new_file, was.st_mode & 07777) != 0 ? STORE_FAILED : SLC1_DONE;
 }
 
-/* Removes what a rebuild left that was cut off. */
+/* What stands behind a file's name in that of the file that will replace it. */
+#define REBUILDING ".rebuilding"
+
+/* Removes what a rebuild left that was cut off: nothing yet, an image, or the zeros of a power cut. */
 static uint32_t remove_leftover(const char *new_path)
 {
     uint8_t first[sizeof MAGIC];
@@ -626,63 +630,91 @@ static uint32_t remove_leftover(const char *new_path)
     close_file(file);
     if (length < 0)
         return STORE_FAILED;
-    if (!is_nothing_else(first, (size_t)length))
+    if (!is_nothing_else(first, (size_t)length) && memcmp(first, (uint8_t[sizeof MAGIC]){0}, sizeof MAGIC) != 0)
         return STORE_IN_THE_WAY;
     return unlink(new_path) != 0 ? STORE_FAILED : SLC1_DONE;
 }
 
-/* Writes the private copy to a new file, and syncs it. */
-static uint32_t write_new_file(const struct store_writer *writer, const char *new_path)
+/* Writes the private copy to a new file, locks it and syncs it. */
+static uint32_t fill_new_file(const struct store_writer *writer, int file)
 {
-    int file;
-    uint32_t answer = open_file(&file, new_path, O_RDWR | O_CREAT | O_EXCL, 0600);
+    uint32_t answer = lock(file, LOCK_EX);
 
-    if (answer != SLC1_DONE)
-        return answer;
-    answer = take_over(file, writer->file);
+    if (answer == SLC1_DONE)
+        answer = take_over(file, writer->file);
     if (answer == SLC1_DONE)
         answer = write_at(file, writer->image.bytes, writer->image.length, 0);
     if (answer == SLC1_DONE && fsync(file) != 0)
         answer = STORE_FAILED;
-    close_file(file);
     return answer;
 }
 
-/* Syncs the folder of a file, and with it the file's name. */
-static uint32_t sync_folder(char *real_path)
+/* The new file takes the place of the old one when it is whole, and becomes the writer's: it is locked before anybody can
+ * find it. Only the file that was judged is replaced, and no other that has its name by now. */
+static uint32_t write_and_rename(struct store_writer *writer, const char *new_path, const char *real_path)
 {
+    int file;
+    uint32_t answer = open_file(&file, new_path, O_RDWR | O_CREAT | O_EXCL, 0600);
+
+    if (answer != SLC1_DONE) {
+        if (errno != EEXIST)
+            remove_file(new_path);
+        return answer;
+    }
+    answer = fill_new_file(writer, file);
+    if (answer == SLC1_DONE)
+        answer = judge_name(real_path, writer->file);
+    if (answer == SLC1_DONE && rename(new_path, real_path) != 0)
+        answer = STORE_FAILED;
+    if (answer != SLC1_DONE) {
+        remove_file(new_path);
+        close_file(file);
+        return answer;
+    }
+    close_file(writer->file);
+    writer->file = file;
+    return SLC1_DONE;
+}
+
+/* The folder of a file, to be synced with the names in it. */
+static int open_folder(const char *real_path)
+{
+    char path[PATH_MAX];
+
+    snprintf(path, sizeof path, "%.*s", (int)(strrchr(real_path, '/') - real_path) + 1, real_path);
+    return open(path, O_RDONLY | O_DIRECTORY | O_CLOEXEC);
+}
+
+/* Replaces the file that `path` names behind symbolic links. */
+static uint32_t replace_file(struct store_writer *writer)
+{
+    char real_path[PATH_MAX], new_path[sizeof real_path + sizeof REBUILDING];
     int folder;
-    uint32_t answer;
-
-    strrchr(real_path, '/')[1] = '\0';
-    folder = open(real_path, O_RDONLY | O_DIRECTORY | O_CLOEXEC);
-    if (folder < 0)
-        return STORE_FAILED;
-    answer = fsync(folder) != 0 ? STORE_FAILED : SLC1_DONE;
-    close_file(folder);
-    return answer;
-}
-
-/* FILE.new takes the place of the file when it is whole: of the one that `path` names behind symbolic links. */
-static uint32_t replace_file(const struct store_writer *writer)
-{
-    char real_path[PATH_MAX], new_path[sizeof real_path + sizeof ".new"];
     uint32_t answer;
 
     if (realpath(writer->path, real_path) == NULL)
         return STORE_FAILED;
-    snprintf(new_path, sizeof new_path, "%s.new", real_path);
+    folder = open_folder(real_path);
+    if (folder < 0)
+        return STORE_FAILED;
+    snprintf(new_path, sizeof new_path, "%s" REBUILDING, real_path);
     answer = remove_leftover(new_path);
-    if (answer != SLC1_DONE)
-        return answer;
-    answer = write_new_file(writer, new_path);
-    if (answer == SLC1_DONE && rename(new_path, real_path) != 0)
-        answer = STORE_FAILED;
     if (answer == SLC1_DONE)
-        return sync_folder(real_path);
-    if (errno != EEXIST) /* another's */
-        remove_file(new_path);
+        answer = write_and_rename(writer, new_path, real_path);
+    if (answer == SLC1_DONE && fsync(folder) != 0)
+        answer = STORE_FAILED;
+    close_file(folder);
     return answer;
+}
+
+/* Makes the private copy anew, of the records alone. */
+static uint32_t make_anew(struct store_image *image, const struct store_records *records)
+{
+    uint32_t answer;
+
+    image->length = size_of(image);
+    answer = slc1_create(STORE_LENT(image));
+    return answer == SLC1_DONE ? change(image, records, NULL) : answer;
 }
 
 uint32_t store_rebuild(struct store_writer *writer, const struct store_records *records)
@@ -693,35 +725,54 @@ uint32_t store_rebuild(struct store_writer *writer, const struct store_records *
 
     if (answer != SLC1_DONE)
         return answer;
-    image->length = size_of(image);
-    answer = slc1_create(STORE_LENT(image));
-    if (answer == SLC1_DONE)
-        answer = change(image, records, NULL);
-    if (answer != SLC1_DONE)
-        return answer;
+    answer = make_anew(image, records);
     hold_signals(&before);
-    answer = replace_file(writer);
+    if (answer == SLC1_DONE)
+        answer = replace_file(writer);
     let_signals(&before);
-    image->length = 0; /* the writer's own file has no name any more, so an update is refused */
+    memcpy(writer->published, image->bytes, size_of(image));
+    image->checksum = STORE_RIGHT;
+    if (answer != SLC1_DONE)
+        image->length = 0; /* it is not the file's: an update is refused */
     return answer;
 }
 
-/* Fills an empty file. Where that fails and this call has made the file, it is removed; but not what another process has
- * filled meanwhile. */
-static uint32_t fill_empty(const char *path, const slc1_options *options, bool made)
+/* Removes a file that is locked, unless another has its name by now. */
+static void remove_locked(const char *path, int file)
+{
+    int kept = errno;
+
+    if (judge_name(path, file) == SLC1_DONE)
+        unlink(path);
+    errno = kept;
+}
+
+/* Removes a file that this process has made and could not fill, unless another process has locked, filled or replaced it. */
+static void remove_made(const char *path, int made)
+{
+    int kept = errno;
+    struct stat status;
+
+    if (lock(made, LOCK_EX) == SLC1_DONE && fstat(made, &status) == 0 && status.st_size == 0)
+        remove_locked(path, made);
+    errno = kept;
+}
+
+/* Fills an empty file; made is it, where this process has made it, else -1. */
+static uint32_t fill_empty(const char *path, const slc1_options *options, int made)
 {
     const struct store_records none = {NULL, 0};
     struct store_writer writer;
     uint32_t answer = store_open_writer(&writer, path, options);
 
     if (answer != SLC1_DONE) {
-        if (made && answer != SLC1_BUSY)
-            remove_empty(path);
+        if (made >= 0)
+            remove_made(path, made);
         return answer;
     }
     answer = writer.image.length > 0 ? (uint32_t)STORE_EXISTS : store_rebuild(&writer, &none);
-    if (made && answer != SLC1_DONE && answer != STORE_EXISTS)
-        remove_file(path);
+    if (made >= 0 && answer != SLC1_DONE && answer != STORE_EXISTS)
+        remove_locked(path, writer.file);
     store_close_writer(&writer);
     return answer;
 }
@@ -729,11 +780,13 @@ static uint32_t fill_empty(const char *path, const slc1_options *options, bool m
 static uint32_t make_and_fill(const char *path, const slc1_options *options)
 {
     int made = open(path, O_WRONLY | O_CREAT | O_EXCL | O_CLOEXEC, 0666);
+    uint32_t answer;
 
     if (made < 0 && errno != EEXIST)
         return STORE_FAILED;
+    answer = fill_empty(path, options, made);
     close_file(made);
-    return fill_empty(path, options, made >= 0);
+    return answer;
 }
 
 uint32_t store_create(const char *path, const slc1_options *options)

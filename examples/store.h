@@ -10,15 +10,16 @@
  *
  * Locks. A writer holds the file's exclusive lock from before begin until after checkpoint. A reader that gets the
  * shared lock therefore knows that no writer is active (role 0), and one that does not knows that one is (role 1). Only
- * the holder of the exclusive lock of the file that FILE names may replace that file, and only it touches FILE.new.
+ * the holder of the exclusive lock of the file that FILE names may replace that file, and only it touches
+ * FILE.rebuilding.
  *
  * Ends. Whenever the process ends or a call fails, the file is as it was, or it needs a rebuild, or the work is done.
- * From begin to checkpoint, and while a file is made or replaced, the signals INT, TERM, HUP and PIPE wait in the thread that
- * calls; a host with further threads blocks them there.
+ * From begin to checkpoint, and while a file is made or replaced, the signals INT, TERM, HUP, PIPE, TSTP and TTOU wait in the
+ * thread that calls; a host with further threads blocks them there.
  *
  * Checksum. SLC1 has none over slots and buckets. The store keeps one in the first 16 of the 64 bytes of user data: the
  * mark "slotsCRC", the CRC32-C of all bytes behind the header as a u64. It is renewed before each checkpoint, and holds
- * for CLEAN images. The other 48 bytes and the user flags are the host's own, and stay.
+ * for CLEAN images. The other 48 bytes and the user flags are the host's own, and stay; after a rebuild they are 0.
  *
  * The role of the options is not looked at: the store finds it out.
  */
@@ -40,8 +41,8 @@ enum {
     STORE_NOT_REGULAR = 33, /* a folder, a pipe or a device stands in the file's place */
     STORE_EXISTS = 34,      /* a file to create is there, and not empty */
     STORE_HARD_LINKS = 35,  /* the file has other names, which a rebuild would leave with the old bytes */
-    STORE_OTHER_OWNER = 36, /* a rebuild can't give the new file to the old one's owner */
-    STORE_IN_THE_WAY = 37   /* FILE.new is there, and is not what a rebuild left */
+    STORE_OTHER_OWNER = 36, /* a rebuild can't give the new file to the old one's owner or group */
+    STORE_IN_THE_WAY = 37   /* FILE.rebuilding is there, and is not what a rebuild left */
 };
 
 /* What is to be said of an answer: from STORE_NOT_REGULAR on what the file is or has, to stand behind its name; else a
@@ -121,7 +122,8 @@ uint32_t store_update(struct store_writer *writer, const struct store_records *r
 
 /* Replaces the file by one with these records alone, once that is whole and synced. Its owner, its mode and symbolic
  * links to it stay; access lists do not. A file is replaced that is empty or an image for the same options, damaged or
- * not: SLC1_INCOMPATIBLE for any other. Answers as store_update does; either way the writer can only be closed then. */
+ * not: SLC1_INCOMPATIBLE for any other. Answers as store_update does, and SLC1_BUSY where the path names another file by
+ * now. Where it is done the writer goes on with the new file, else it can only be closed. */
 uint32_t store_rebuild(struct store_writer *writer, const struct store_records *records);
 
 /* Gives the lock back. */

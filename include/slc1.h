@@ -254,10 +254,12 @@ uint32_t slc1_set_user_fields(
 
 /* Commits a batch of 0 to 64 records, one after the other, each laid out as a slot (above). A delete has revision and
  * index zero. The last record for a key decides. A put on a live key keeps its slot; a delete of a key that is not there is
- * no error; a deleted key's slot is never used again, not even for that key: only a fresh image has it free. 0, or the first reason that holds: the header test's number; 4 or 7 by
- * the role; 7 on CLEAN (begin first); 1 where the generation is used up; 7 for a batch of another length, over 64 records
- * or with a malformed record; 1 where the full check fails; 5 where the new keys outnumber the slots left; 6 where the
- * image is ordered and a new key is below the key of its last slot. */
+ * no error; a deleted key's slot is never used again, not even for that key: only a fresh image has it free.
+ *
+ * 0, or the first reason that holds: the header test's number; 4 or 7 by the role; 7 on CLEAN (begin first); 1 where the
+ * generation is used up; 7 for a batch of another length, over 64 records or with a malformed record; 1 where the full
+ * check fails; 5 where the new keys outnumber the slots left; 6 where the image is ordered and a new key is below the key
+ * of its last slot. */
 uint32_t slc1_commit(uint8_t *image, size_t length, SLC1_SIX_NUMBERS, const uint8_t *batch, size_t batch_length);
 
 /* Revision age. */
@@ -289,7 +291,7 @@ static inline const char *slc1_text(uint32_t answer)
     case SLC1_BUSY: return "another writer is active: try again";
     case SLC1_FULL: return "no slots are left for the new keys";
     case SLC1_OUT_OF_ORDER: return "a new key is below the last of an ordered image";
-    case SLC1_INVALID_INPUT: return "the call does not take these options, role, key, pattern, batch or user data, or begin is missing";
+    case SLC1_INVALID_INPUT: return "the call does not take this input, under this role, or begin is missing";
     case SLC1_NOT_PRESENT: return "the key is not there";
     case SLC1_CREATE_IT: return "the image has length 0: create it";
     case SLC1_TOO_SHORT: return "a lent output is too short";

@@ -13,7 +13,7 @@ from bench_tools import COUNTS, LOADED, NEW, OLD, OPTIONS, WORK, holds, path_of,
 from bench_wanted import OLD_IMAGE, changed, fresh, listed, reads, stored, struck_out
 
 EXPORT = ("export", "cache", "made.csv")
-FILES = ("cache", "cache.new", "made.csv")
+FILES = ("cache", "cache.rebuilding", "made.csv")
 
 
 def prepare(image):
@@ -88,7 +88,7 @@ def signalled(bench, image, *words):
             process.send_signal(signal.SIGCONT)
             same(f"{words} after {sent.name} at call {number}", bench.ended(process, sent).status, -sent)
         holds(f"the file after {words} and {sent.name} at call {number}", read("cache") == wanted)
-        holds("nothing is left beside it", not there("cache.new"))
+        holds("nothing is left beside it", not there("cache.rebuilding"))
         COUNTS["signals"] += 1
 
 

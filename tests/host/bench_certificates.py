@@ -258,7 +258,7 @@ def filling(bench):
         write("anew", before)
         ran = bench.leaves_alone("anew", bench.refused, 5, "too many by 1", "rebuild", "anew",
                                  write_certificates("more.csv", NEW + MORE))
-        holds("nothing is left beside it", not there("anew.new"))
+        holds("nothing is left beside it", not there("anew.rebuilding"))
     same("load", bench.silent("load", "full", write_certificates("more.csv", MORE[:212])),
          "212 certificates loaded, 512 live\n")
     same("list", bench.silent("list", "full"), rows(NEW + MORE[:212]))

@@ -8,8 +8,8 @@ from functools import partial
 
 import second
 from bench_tools import (
-    HEADING, LOADED, NEW, OPTIONS, REBUILT, ROOT, SENTENCES, Certificate, certificates_in, holds, path_of, read, row, rows,
-    same, says, there, write, write_certificates)
+    HEADING, LOADED, NEW, OPTIONS, REBUILT, ROOT, SENTENCES, WORK, Certificate, certificates_in, holds, path_of, read, row,
+    rows, same, says, there, write, write_certificates)
 from bench_wanted import NEW_IMAGE, fresh, loaded, pairs, reads, stored, wanted, without_generation
 
 COMMANDS = ("create", "load", "rebuild", "compare", "get", "find", "list", "export", "check", "drop")
@@ -141,6 +141,19 @@ def exporting(bench):
         holds(f"an export of what is refused ({number}) makes nothing", not there("made.csv"))
 
 
+def exporting_beside_others(bench):
+    """A file that has the name of the one that an export begins with is not its own, and stays."""
+    def leave():
+        write(f"made.csv.{os.getpid()}", b"of one's own")
+
+    ran = bench.ended(bench.start("export", "cache", "made.csv", before=leave))
+    same(f"export: {ran.err}", (ran.status, ran.out), (74, ""))
+    (name,) = [name for name in os.listdir(WORK) if name.startswith("made.csv")]
+    says(ran, name)
+    same("the other file", read(name), b"of one's own")
+    os.unlink(path_of(name))
+
+
 def compared(image, certificates):
     """What compare prints, by its rule: the deciding line of each serial, then what the file lacks."""
     cached = {slot.key.decode(): slot for slot in second.Table(image, OPTIONS).slots() if slot.meta == 1}
@@ -176,7 +189,7 @@ def rebuilding(bench):
         firsts = list(dict.fromkeys(certificates))
         holds("the file", without_generation(read("cache")) == without_generation(stored(fresh(), firsts)))
         same("list", reads(bench, "cache", "list").out, rows(firsts))
-        holds("nothing is left beside it", not there("cache.new"))
+        holds("nothing is left beside it", not there("cache.rebuilding"))
 
 
 def links_and_modes(bench):
@@ -186,22 +199,23 @@ def links_and_modes(bench):
     owner = (1234, 4321) if os.geteuid() == 0 else (os.geteuid(), os.getegid())
     os.chown(path_of("cache"), *owner)
     os.symlink("cache", path_of("link"))
-    write("cache.new", b"of one's own")
-    bench.leaves_alone("cache.new", bench.refused, 74, "with .new", "rebuild", "cache", "new.csv")
-    os.unlink(path_of("cache.new"))
+    write("cache.rebuilding", b"of one's own")
+    bench.leaves_alone("cache.rebuilding", bench.refused, 74, "with .rebuilding", "rebuild", "cache", "new.csv")
+    os.unlink(path_of("cache.rebuilding"))
     for stand, take_away in ((os.mkdir, os.rmdir), (os.mkfifo, os.unlink), (partial(os.symlink, "nowhere"), os.unlink)):
-        stand(path_of("cache.new"))
-        bench.leaves_alone("cache", bench.refused, 74, "with .new", "rebuild", "cache", "new.csv")
-        take_away(path_of("cache.new"))
-    write("cache.new", b"SLC1 left behind")
-    bench.done("rebuild", "link", "new.csv")
+        stand(path_of("cache.rebuilding"))
+        bench.leaves_alone("cache", bench.refused, 74, "with .rebuilding", "rebuild", "cache", "new.csv")
+        take_away(path_of("cache.rebuilding"))
+    for left in (b"", bytes(5000), b"SLC1 left behind"):
+        write("cache.rebuilding", left)
+        bench.done("rebuild", "link", "new.csv")
     holds("the link is still one", os.path.islink(path_of("link")))
     status = os.stat(path_of("cache"))
     same("mode and owner", (status.st_mode & 0o7777, status.st_uid, status.st_gid), (0o640, *owner))
     same("list", bench.done("list", "link"), rows(NEW))
     os.link(path_of("cache"), path_of("second name"))
     bench.leaves_alone("cache", bench.refused, 74, "hard link", "rebuild", "cache", "new.csv")
-    holds("still one file", os.path.samefile(path_of("cache"), path_of("second name")) and not there("cache.new"))
+    holds("still one file", os.path.samefile(path_of("cache"), path_of("second name")) and not there("cache.rebuilding"))
     for name in ("link", "second name"):
         os.unlink(path_of(name))
 
@@ -237,5 +251,5 @@ def progress(bench):
     says(shown, *PROGRESS)
 
 
-COMMANDS_PARTS = (usage, creating, other_files, reading, dropping, spelling, exporting, comparing, rebuilding,
+COMMANDS_PARTS = (usage, creating, other_files, reading, dropping, spelling, exporting, exporting_beside_others, comparing, rebuilding,
                   links_and_modes, full_output, progress)

@@ -37,7 +37,7 @@ def mending(bench):
         for words in (*WRITES, ("compare", "cache", "new.csv")):
             bench.answers(refusal, *words)
             holds(f"the file after {words}", read("cache") in (damaged, struck_out(damaged)))
-        holds("nothing is made", not there("cache.new") and not there("made.csv"))
+        holds("nothing is made", not there("cache.rebuilding") and not there("made.csv"))
         same("rebuild", bench.done("rebuild", "cache", "new.csv"), REBUILT)
         same("list", reads(bench, "cache", "list").out, rows(NEW))
         same("the checksum", checksum(read("cache"), 0), RIGHT)
@@ -91,7 +91,7 @@ def no_cache(bench):
             same("list", reads(bench, "cache", "list").out, rows(NEW))
         else:
             bench.leaves_alone("cache", bench.answers, 2, "rebuild", "cache", "new.csv")
-        holds("nothing is made", not there("cache.new") and not there("made.csv"))
+        holds("nothing is made", not there("cache.rebuilding") and not there("made.csv"))
 
 
 def lengths(bench):

@@ -37,8 +37,8 @@ def after_a_kill(bench, numbers, wholes):
 def begin_with(image):
     """The cache as it was when the calls were counted: a file that a kill left beside it would bring one more."""
     write("cache", image)
-    if there("cache.new"):
-        os.unlink(path_of("cache.new"))
+    if there("cache.rebuilding"):
+        os.unlink(path_of("cache.rebuilding"))
 
 
 def kills(bench, image, calls, chosen, wholes, *words):
@@ -72,7 +72,7 @@ def killed_drops(bench):
 def killed_creates(bench):
     """What a create left that was killed is no cache, or a whole one; the next create makes it one."""
     for number in range(1, len(calls_of(bench, b"", *CREATE)) + 1):
-        for name in filter(there, ("cache", "cache.new")):
+        for name in filter(there, ("cache", "cache.rebuilding")):
             os.unlink(path_of(name))
         same("a killed create", bench.run(*CREATE, KILL_AT=number).status, -9)
         holds(f"a create killed at {number}", not there("cache") or read("cache") in (b"", fresh()))

@@ -54,6 +54,20 @@ def beside_a_held_writer(bench):
                 COUNTS["reads beside a held writer"] += 1
 
 
+def exports_are_whole(bench):
+    """Beside a writer an export is of a CLEAN cache, or there is none: half a load could be taken for all certificates."""
+    calls = calls_of(bench, OLD_IMAGE, *LOAD)
+    for number in (1, 2, commits_of(calls)[1][0], len(calls) - 1, len(calls)):
+        write("cache", OLD_IMAGE)
+        with held(bench, number, *LOAD):
+            clean = second.header_test(read("cache"), OPTIONS) == 0
+            same(f"export while the writer is held at {number}", bench.run("export", "cache", "part.csv").status,
+                 0 if clean else 4)
+            same("the file", there("part.csv"), clean)
+        if clean:
+            os.unlink(path_of("part.csv"))
+
+
 def going_on(bench):
     """A reader that meets a commit, a begin or a checkpoint half done waits for its end, and does not answer 4 or 1."""
     calls = calls_of(bench, OLD_IMAGE, *LOAD)
@@ -186,7 +200,7 @@ def two_creates(bench):
             first.send_signal(signal.SIGCONT)
             statuses = (bench.ended(first).status, other)
             holds(f"two creates: {statuses}", statuses in ((0, 4), (0, 7), (7, 0)))
-            holds("one cache", read(name) == fresh() and not there(name + ".new"))
+            holds("one cache", read(name) == fresh() and not there(name + ".rebuilding"))
 
 
 # A reader beside a writer at full speed.
@@ -250,6 +264,6 @@ def beside(bench):
     holds(f"the lock was held for some reads: {COUNTS}", COUNTS["of them while it held the lock"] >= 20)
 
 
-READERS_PARTS = (beside_a_held_writer, going_on, torn_copies, locked_out, shrinking, rebuilt_beside_readers,
+READERS_PARTS = (beside_a_held_writer, exports_are_whole, going_on, torn_copies, locked_out, shrinking, rebuilt_beside_readers,
                  rebuilt_from_what_is_right, replaced_meanwhile, left_in_the_gap, two_creates,
                  beside)

@@ -85,7 +85,7 @@ static struct store_records some;
 static void prepare(const struct work *work)
 {
     unlink("cache");
-    unlink("cache.new");
+    unlink("cache.rebuilding");
     if (work->before != NULL) {
         write_file("cache", work->before->bytes, work->before->length);
         holds(geteuid() != 0 || chown("cache", 1234, 4321) == 0); /* a rebuild has an owner to keep */
@@ -109,7 +109,7 @@ static uint32_t run(const struct work *work, enum how how, long chosen)
     same(before, descriptors());
     same(0, count_held());
     holds(sigprocmask(SIG_SETMASK, NULL, &mask) == 0 && !sigismember(&mask, SIGINT) && !sigismember(&mask, SIGPIPE));
-    holds(access("cache.new", F_OK) != 0);
+    holds(access("cache.rebuilding", F_OK) != 0);
     holds(answer != STORE_FAILED || error == plan.error);
     return answer;
 }
@@ -189,8 +189,8 @@ static struct bytes updated(const struct bytes *before)
     return after;
 }
 
-/* A reader that stays open, whose copy breaks off when the file has changed: the next one is whole. */
-static void broken_copies(const struct bytes *before)
+/* A reader that stays open, whose copy fails or breaks off when the file has changed: the next one is whole. */
+static void broken_copies(const struct bytes *before, enum how how)
 {
     struct bytes after = updated(before);
     struct store_reader reader;
@@ -202,7 +202,7 @@ static void broken_copies(const struct bytes *before)
         same(SLC1_DONE, store_open_reader(&reader, "cache", &OPTIONS, 0));
         same(SLC1_DONE, store_read(&reader));
         write_file("cache", after.bytes, after.length);
-        arm(BROKEN_OFF, ++chosen);
+        arm(how, ++chosen);
         answer = store_read(&reader);
         plan.armed = false;
         holds(answer == SLC1_DONE || (answer == STORE_FAILED && plan.error != 0));
@@ -247,7 +247,8 @@ int main(int count, char **words)
 
     for (size_t i = 0; i < COUNT(works); i++)
         fail_each(&works[i]);
-    broken_copies(&good);
+    broken_copies(&good, ONCE);
+    broken_copies(&good, BROKEN_OFF);
     locked(&good);
     holds(geteuid() != 0 || owners > 0);
     free(some.bytes);

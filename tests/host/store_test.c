@@ -6,10 +6,13 @@
 #define _DEFAULT_SOURCE /* POSIX, and mknod, under -std=c11 */
 
 #include <errno.h>
+#include <fcntl.h>
 #include <signal.h>
+#include <stdbool.h>
 #include <stdio.h>
 #include <stdlib.h>
 #include <string.h>
+#include <sys/file.h>
 #include <sys/stat.h>
 #include <unistd.h>
 
@@ -114,32 +117,55 @@ static void records_that_are_refused(void)
     same(SLC1_INVALID_INPUT, store_update(&writer, &records));
     holds(is_contents("refused", &before));
     same(SLC1_INVALID_INPUT, store_rebuild(&writer, &records));
-    holds(is_contents("refused", &before) && access("refused.new", F_OK) != 0);
+    holds(is_contents("refused", &before) && access("refused.rebuilding", F_OK) != 0);
     store_close_writer(&writer);
     same(SLC1_FULL, update("refused", &SMALL, 513, 1));
     same(SLC1_FULL, rebuild("refused", &SMALL, 513, 1));
-    holds(is_contents("refused", &before) && access("refused.new", F_OK) != 0);
+    holds(is_contents("refused", &before) && access("refused.rebuilding", F_OK) != 0);
     same(SLC1_DONE, update("refused", &SMALL, 512, 1));
     same(SLC1_DONE, update("refused", &SMALL, 0, 1));
     free(before.bytes);
     free(records.bytes);
 }
 
-/* A writer that has rebuilt can only be closed: what it would update is a file without a name. */
+/* A writer that has rebuilt goes on with the new file, whose lock it holds. */
 static void update_after_a_rebuild(void)
 {
-    struct store_records records = puts_of(&SMALL, 3, 1);
+    struct store_records first = puts_of(&SMALL, 3, 1), further = puts_of(&SMALL, 100, 2);
     struct store_writer writer;
-    struct bytes after;
+    struct bytes updated;
+    int file;
 
     same(SLC1_DONE, store_create("rebuilt", &SMALL));
     same(SLC1_DONE, store_open_writer(&writer, "rebuilt", &SMALL));
-    same(SLC1_DONE, store_rebuild(&writer, &records));
-    after = contents("rebuilt");
-    same(SLC1_CREATE_IT, store_update(&writer, &records));
-    holds(is_contents("rebuilt", &after));
+    same(SLC1_DONE, store_rebuild(&writer, &first));
+    same(SLC1_DONE, store_update(&writer, &further));
+    updated = contents("rebuilt");
+    holds(updated.length == writer.image.length && memcmp(updated.bytes, writer.image.bytes, updated.length) == 0);
+    same(100, slc1_full_check_live(STORE_LENT(&writer.image)));
+    file = open("rebuilt", O_RDWR);
+    holds(flock(file, LOCK_EX | LOCK_NB) != 0 && errno == EWOULDBLOCK);
     store_close_writer(&writer);
-    free(after.bytes);
+    holds(flock(file, LOCK_EX | LOCK_NB) == 0 && close(file) == 0);
+    free(updated.bytes);
+    free(first.bytes);
+    free(further.bytes);
+}
+
+/* A file that has taken the name since the writer opened its own is not replaced. */
+static void another_file_of_the_name(void)
+{
+    struct store_records records = puts_of(&SMALL, 3, 1);
+    struct store_writer writer;
+
+    same(SLC1_DONE, store_create("moved", &SMALL));
+    same(SLC1_DONE, store_open_writer(&writer, "moved", &SMALL));
+    holds(rename("moved", "moved away") == 0);
+    write_file("moved", "a thesis", 8);
+    same(SLC1_BUSY, store_rebuild(&writer, &records));
+    holds(is_contents("moved", &(struct bytes){(uint8_t *)"a thesis", 8}) && access("moved.rebuilding", F_OK) != 0);
+    same(SLC1_CREATE_IT, store_update(&writer, &records));
+    store_close_writer(&writer);
     free(records.bytes);
 }
 
@@ -151,7 +177,7 @@ static void hard_links(void)
     holds(link("linked", "other name") == 0);
     before = contents("linked");
     same(STORE_HARD_LINKS, rebuild("linked", &SMALL, 3, 1));
-    holds(is_contents("linked", &before) && is_contents("other name", &before) && access("linked.new", F_OK) != 0);
+    holds(is_contents("linked", &before) && is_contents("other name", &before) && access("linked.rebuilding", F_OK) != 0);
     same(SLC1_DONE, update("linked", &SMALL, 3, 1));
     free(before.bytes);
     before = contents("linked");
@@ -174,6 +200,35 @@ static void other_files_are_not_replaced(void)
 }
 
 /* A change leaves the caller's signals as they were. */
+/* Within an update these signals wait, and no others. */
+static void see_mask(size_t done, size_t all)
+{
+    static const int WAITING[] = {SIGINT, SIGTERM, SIGHUP, SIGPIPE, SIGTSTP, SIGTTOU};
+    sigset_t mask;
+
+    holds(done <= all && sigprocmask(SIG_SETMASK, NULL, &mask) == 0);
+    for (int number = 1; number < 32; number++) {
+        bool waits = false;
+
+        for (size_t i = 0; i < COUNT(WAITING); i++)
+            waits |= number == WAITING[i];
+        same(waits, (uint64_t)sigismember(&mask, number));
+    }
+}
+
+static void signals_within(void)
+{
+    struct store_records records = puts_of(&SMALL, 100, 1);
+    struct store_writer writer;
+
+    same(SLC1_DONE, store_create("within", &SMALL));
+    same(SLC1_DONE, store_open_writer(&writer, "within", &SMALL));
+    writer.progress = see_mask;
+    same(SLC1_DONE, store_update(&writer, &records));
+    store_close_writer(&writer);
+    free(records.bytes);
+}
+
 static void signals(void)
 {
     sigset_t before, after;
@@ -195,8 +250,8 @@ static void signals(void)
 int main(int count, char **words)
 {
     static void (*const TESTS[])(void) = {texts, files_of_other_kinds, options_out_of_range, creating,
-                                          records_that_are_refused, update_after_a_rebuild, hard_links,
-                                          other_files_are_not_replaced, signals};
+                                          records_that_are_refused, update_after_a_rebuild, another_file_of_the_name, hard_links,
+                                          other_files_are_not_replaced, signals_within, signals};
 
     if (count != 2)
         return 64;
