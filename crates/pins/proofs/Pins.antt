@@ -17,7 +17,7 @@ use Rattle.header.specs.Sizes.{sizesAllowed, align8, slotSize, powerFrom, bucke
 use Rattle.header.proofs.SizeLaws.{bucket-count-power, bucket-count-low, bucket-count-high}
 use Rattle.listing.specs.Match.{bitAt, agrees}
 use Rattle.host.specs.Places.{placeIn, keyPlace, indexPlace}
-use Rattle.host.specs.Results.{reportOf, wordOf, lookupReport, checkReport, listedReport}
+use Rattle.host.specs.Results.{reportOf, wordOf, lookupReport, checkReport, listedReport, listingReport}
 use Rattle.pins.specs.Pins.{Pins}
 
 -- a power of two below twice another is at most that one
@@ -37,7 +37,7 @@ smallest capacity k h =
     ]
 
 pub pins : Pins
-unfolding word bytesOf put below signed fnvFrom fnv1a64 crcBit crcBits crcFrom crc32c allTo firstOf test1 sizesAllowed align8 slotSize bitAt agrees placeIn keyPlace indexPlace reportOf wordOf lookupReport checkReport listedReport
+unfolding word bytesOf put below signed fnvFrom fnv1a64 crcBit crcBits crcFrom crc32c allTo firstOf test1 sizesAllowed align8 slotSize bitAt agrees placeIn keyPlace indexPlace reportOf wordOf lookupReport checkReport listedReport listingReport
 pins =
     record {
       word-of = refl;
@@ -65,4 +65,5 @@ pins =
       results-short = refl;
       results-checked = refl;
       results-listed = refl;
+      results-unlisted = refl;
     }

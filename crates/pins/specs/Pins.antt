@@ -14,10 +14,10 @@ use Rattle.header.specs.Fields.{SLC1}
 use Rattle.header.specs.Sizes.{most-slot-capacity, bucketCount}
 use Rattle.listing.specs.Match.{agrees}
 use Rattle.host.specs.Places.{keyPlace, indexPlace}
-use Rattle.host.specs.Results.{reported, lookupReport, checkReport, listedReport}
+use Rattle.host.specs.Results.{reported, lookupReport, checkReport, reportedListing, listingReport}
 use Rattle.image.specs.declared.check.Checked.{Checked}
 use Rattle.image.specs.declared.lookup.Lookup.{Lookup}
-use Rattle.listing.specs.declared.listed.Listed.{Listed}
+use Rattle.listing.specs.Scan.{Outcome}
 use Rattle.demands.specs.Examples.{bench}
 
 -- a key of slot 3, with revision -7, found in the second bucket; one that is not there; a full check; a listing
@@ -30,8 +30,8 @@ absent = record { answer = 9; slot = 0; revision = pos 0; buckets = 4 }
 abbrev pub checked : Checked
 checked = record { answer = 0; live = 6; tombstones = 1; probes = 9 }
 
-abbrev pub listed : Listed
-listed = record { answer = 0; total = 6; written = 2 }
+abbrev pub listed : Outcome
+listed = record { listed = record { answer = 0; total = 6; written = 2 }; numbers = 1 ∷ 4 ∷ 7 ∷ [] }
 
 pub record Pins : Type 0 where
   -- "little-endian": the first byte is the lowest
@@ -64,9 +64,13 @@ pub record Pins : Type 0 where
   pub offset-bits : agrees 1 3 (0xA0 ∷ []) (0xFF ∷ 0xBF ∷ []) ≡ true
   pub offset-bits-not : agrees 1 3 (0xA0 ∷ []) (0xA0 ∷ 0x1F ∷ []) ≡ false
   -- all numbers of a call in one list: answer, slot, revision as two's complement, buckets; with 9 too; answer, live, tombstones,
-  -- probes; answer, total, written. The entry behind them stays, and a list that is too short is left alone
+  -- probes; answer, total, written beside the slots listed. The entry behind them stays, and a list that is too short is left
+  -- alone, that of the slots too
   pub results-found : lookupReport third (5 ∷ 5 ∷ 5 ∷ 5 ∷ 5 ∷ []) ≡ reported 0 (0 ∷ 3 ∷ (2 ^ 64 - 7) ∷ 2 ∷ 5 ∷ [])
   pub results-absent : lookupReport absent (5 ∷ 5 ∷ 5 ∷ 5 ∷ []) ≡ reported 9 (9 ∷ 0 ∷ 0 ∷ 4 ∷ [])
   pub results-short : lookupReport third (5 ∷ 5 ∷ 5 ∷ []) ≡ reported 11 (5 ∷ 5 ∷ 5 ∷ [])
   pub results-checked : checkReport checked (5 ∷ 5 ∷ 5 ∷ 5 ∷ []) ≡ reported 0 (0 ∷ 6 ∷ 1 ∷ 9 ∷ [])
-  pub results-listed : listedReport listed (5 ∷ 5 ∷ 5 ∷ []) ≡ reported 0 (0 ∷ 6 ∷ 2 ∷ [])
+  pub results-listed :
+      listingReport listed (7 ∷ 7 ∷ 7 ∷ []) (5 ∷ 5 ∷ 5 ∷ []) ≡ reportedListing (reported 0 (0 ∷ 6 ∷ 2 ∷ [])) (1 ∷ 4 ∷ 7 ∷ [])
+  pub results-unlisted :
+      listingReport listed (7 ∷ 7 ∷ 7 ∷ []) (5 ∷ 5 ∷ []) ≡ reportedListing (reported 11 (5 ∷ 5 ∷ [])) (7 ∷ 7 ∷ 7 ∷ [])
