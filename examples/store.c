@@ -730,11 +730,13 @@ uint32_t store_rebuild(struct store_writer *writer, const struct store_records *
     if (answer == SLC1_DONE)
         answer = replace_file(writer);
     let_signals(&before);
+    if (answer != SLC1_DONE) {
+        image->length = 0; /* it is not the file's: an update is refused */
+        return answer;
+    }
     memcpy(writer->published, image->bytes, size_of(image));
     image->checksum = STORE_RIGHT;
-    if (answer != SLC1_DONE)
-        image->length = 0; /* it is not the file's: an update is refused */
-    return answer;
+    return SLC1_DONE;
 }
 
 /* Removes a file that is locked, unless another has its name by now. */
