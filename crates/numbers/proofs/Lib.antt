@@ -1,4 +1,5 @@
 pub mod Compare
+pub mod EqualWords
 pub mod Product
 pub mod Put
 pub mod Signed

@@ -1,3 +1,4 @@
 pub mod Age
 pub mod Bytes
+pub mod EqualWords
 pub mod Signed

@@ -1,8 +1,35 @@
 // Slices, and parts of slices, compared, copied and cleared.
 ghost use mathlib.Core.Path.{_≡_};
-ghost use Prim.Native.Nat.{_+_, _≤_};
+ghost use Prim.Native.Nat.{_+_, _/_, _≤_, min};
 ghost use lib.ListN.{length, replicate};
 ghost use Rattle.numbers.specs.Bytes.{same, below, allZero, put};
+ghost use Rattle.numbers.specs.EqualWords.{EqualWords};
+use crate::words::u64_at;
+
+// How many words of eight bytes both slices have.
+fn whole_words(a: &[u8], b: &[u8]) -> usize
+    ensures { λ r. ⌜ r ≡ min (length (now (a .entry))) (length (now (b .entry))) / 8 ⌝ }
+{
+    if a.len() < b.len() {
+        return a.len() / 8;
+    }
+    b.len() / 8
+}
+
+// How many words of eight bytes are the same in both slices, from the start on.
+fn equal_words(a: &[u8], b: &[u8]) -> usize
+    ensures { λ r. ⌜ EqualWords (now (a .entry)) (now (b .entry)) r ⌝ }
+{
+    let words = whole_words(a, b);
+    let mut n = 0;
+    while n < words {
+        if u64_at(a, 8 * n) != u64_at(b, 8 * n) {
+            return n;
+        }
+        n += 1;
+    }
+    n
+}
 
 // Whether two slices hold the same bytes.
 pub fn same_bytes(a: &[u8], b: &[u8]) -> bool
@@ -11,7 +38,11 @@ pub fn same_bytes(a: &[u8], b: &[u8]) -> bool
     if a.len() != b.len() {
         return false;
     }
-    let mut i = 0;
+    let words = a.len() / 8;
+    if equal_words(a, b) < words {
+        return false;
+    }
+    let mut i = 8 * words;
     while i < a.len() {
         if a[i] != b[i] {
             return false;
@@ -21,11 +52,12 @@ pub fn same_bytes(a: &[u8], b: &[u8]) -> bool
     true
 }
 
-// Whether a comes before b, lexicographically, bytes as unsigned numbers.
+// Whether a comes before b, lexicographically, bytes as unsigned numbers. Words only tell that something differs: as a number, a
+// word has its first byte lowest.
 pub fn comes_before(a: &[u8], b: &[u8]) -> bool
     ensures { λ r. ⌜ r ≡ below (now (a .entry)) (now (b .entry)) ⌝ }
 {
-    let mut i = 0;
+    let mut i = 8 * equal_words(a, b);
     while i < b.len() {
         if a.len() <= i {
             return true;
