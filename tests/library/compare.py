@@ -15,7 +15,7 @@ sys.path.append(sys.path[0] + "/../second")
 
 import native
 import second
-from images import Images
+from images import Images, record_of
 
 CRATES = os.path.abspath(os.path.join(os.path.dirname(__file__), "..", "..", "crates"))
 # the calls, by what demand 1 names them
@@ -204,6 +204,27 @@ def commits(comparison):
             comparison.same("commit", image, comparison.images.asked(o), comparison.images.batch(o, 8))
 
 
+def keys(comparison):
+    """Keys of every length, with a difference at every byte. A lookup where a bucket has the key's hash, and its slot a key that
+    differs in that byte alone; a commit, to an ordered image, of two keys that first differ there, from each other and from the
+    stored one."""
+    pick = comparison.random
+    for size in range(1, 65):
+        o = second.Options(size, 0, 3, 0, 1, 2)
+        image, stored = bytearray(second.total_size(o)), pick.randbytes(size)
+        second.create(image, o)
+        second.begin(image, o)
+        second.commit(image, o, record_of(o, True, stored, 0, b""))
+        for at in range(size):
+            first, then = pick.sample([byte for byte in range(256) if byte != stored[at]], 2)
+            asked = stored[:at] + bytes([first]) + stored[at + 1:]
+            misled, hash64 = bytearray(image), second.fnv1a64(asked)
+            second.Table(misled, o).write_bucket(hash64 % second.bucket_count(o), hash64, 1)
+            comparison.same("lookup", misled, o, asked)
+            new = [stored[:at] + bytes([byte]) + pick.randbytes(size - at - 1) for byte in (first, then)]
+            comparison.same("commit", image, o, b"".join(record_of(o, True, key, 0, b"") for key in new))
+
+
 def spec(*path):
     with open(os.path.join(CRATES, *path)) as file:
         return file.read()
@@ -225,7 +246,7 @@ def main():
     seed = int(sys.argv[1]) if len(sys.argv) > 1 else 1
     comparison = Comparison(seed)
     began = time.monotonic()
-    for part in (digests, ages, places, readings, creations, writings, user_data, histories, commits):
+    for part in (digests, ages, places, readings, creations, writings, user_data, histories, commits, keys):
         part(comparison)
     listed = dict(numbers_listed())
     if listed.keys() != set(JUDGED.values()):
