@@ -25,7 +25,7 @@
  * The shared object's name has that number. SLC1_VERSION is "major.minor.patch". */
 #define SLC1_VERSION_MAJOR 1
 #define SLC1_VERSION_MINOR 0
-#define SLC1_VERSION_PATCH 0
+#define SLC1_VERSION_PATCH 1
 #define SLC1_VERSION SLC1_DOTTED(SLC1_VERSION_MAJOR, SLC1_VERSION_MINOR, SLC1_VERSION_PATCH)
 #define SLC1_DOTTED(major, minor, patch) SLC1_DOTTED_AS_GIVEN(major, minor, patch)
 #define SLC1_DOTTED_AS_GIVEN(major, minor, patch) #major "." #minor "." #patch

@@ -1,5 +1,5 @@
 /* How long two equal keys are compared by each of two libraries that keys.py makes: in one process, pinned to a processor, by turns.
- * Medians, with the tenth and the ninetieth of a hundred rounds beside each, and the ratio of the first to the second.
+ * Medians, beside each the tenth and the ninetieth percentile, and the ratio of the first to the second.
  *
  * usage: keys_time LIBRARY LIBRARY */
 #define _GNU_SOURCE
