@@ -69,10 +69,10 @@ class Keys:
             function.restype, function.argtypes = ctypes.c_bool, (ctypes.c_void_p, ctypes.c_size_t) * 2
 
     def lent(self, key):
-        """A key as a pointer and a length; it begins anywhere in a word."""
+        """A key as a pointer and a length; it begins anywhere in a word, and other bytes stand before and behind it."""
         start = self.random.randrange(8)
-        room = (ctypes.c_char * (start + len(key) + 1)).from_buffer_copy(bytes(start) + key + b"\0")
-        return ctypes.byref(room, start), len(key)
+        room = self.random.randbytes(start) + key + self.random.randbytes(8)
+        return ctypes.byref((ctypes.c_char * len(room)).from_buffer_copy(room), start), len(key)
 
     def compare(self, a, b):
         for one, other in ((a, b), (b, a)):
@@ -100,6 +100,7 @@ def main():
         keys = Keys(library)
         keys.compare_all()
         print(f"{keys.pairs} pairs of keys of 0 to {LONGEST} bytes are compared rightly ({os.path.relpath(library, ROOT)})")
+    # built in any case, so that a change that breaks it is noticed
     timer = os.path.join(ROOT, "target", "keys", "timer")
     run("gcc", "-std=gnu11", "-Wall", "-Wextra", "-Werror", "-O2", os.path.join(ROOT, "tests", "library", "keys_time.c"), "-o", timer)
     if len(libraries) > 1:
