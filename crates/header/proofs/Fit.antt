@@ -91,6 +91,7 @@ module _ (o : Options) (image : List ℕ) (s : Shape) (fit : judged o image ≡ 
       let room = bucket-count-room (o .«slot_capacity») (h .capacity-low) (h .capacity-high) in
       record {
         laid = record {
+          keys = rw fit-key-size (h .key-high);
           slot = rw fit-shape (rw (says .key, says .index) (says .slot));
           offset = rw fit-shape (extent-passed image (passed .tenth) .0);
           inside = rw fit-shape (extent-passed image (passed .tenth) .1);

@@ -6,10 +6,12 @@ use mathlib.Core.List.{List}
 use lib.ListN.{length}
 use Rattle.header.specs.declared.shape.Layout.{Layout}
 use Rattle.header.specs.declared.shape.Shape.{Shape}
-use Rattle.header.specs.Sizes.{slotSize, bucketsOffset}
+use Rattle.header.specs.Sizes.{most-key-size, slotSize, bucketsOffset}
 
 -- by its layout
 pub record LaidOut (l : Layout) (image : List ℕ) : Type 0 where
+  -- keys are short, so that even their bits are few
+  pub keys : l .«key_size» ≤ most-key-size
   pub slot : l .«slot_size» ≡ slotSize (l .«key_size») (l .«index_size»)
   -- the buckets follow the slots, and the image holds both
   pub offset : l .«buckets_offset» ≡ bucketsOffset (l .«slot_capacity») (l .«slot_size»)

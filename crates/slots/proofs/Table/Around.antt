@@ -114,6 +114,7 @@ around-shape k =
 pub around-laid : {layout : Layout} {image image′ : List ℕ} → Around layout image image′ → LaidOut layout image → LaidOut layout image′
 around-laid k fit =
     record {
+      keys = fit .keys;
       slot = fit .slot;
       offset = fit .offset;
       inside = omega (arith, fit .inside, k .size);
