@@ -237,7 +237,7 @@ static int find(char **words)
         fail(SLC1_INVALID_INPUT, "'%s' has %zu characters: half a serial has 1 to %d", words[1], length, KEY_SIZE);
     answer = read_cache(&reader, words[0], 0);
     if (answer == SLC1_DONE)
-        answer = slc1_match_results(STORE_LENT(&reader.image), 0, 8 * length, (const uint8_t *)words[1], length, 0,
+        answer = slc1_match_results(STORE_LENT(&reader.image), 0, 0, (const uint8_t *)words[1], length, 0,
                                     SLOT_CAPACITY, numbers, SLOT_CAPACITY, results, SLC1_LISTING_RESULTS);
     for (uint64_t i = 0; i < results[2]; i++) {
         show_slot(&reader.image, numbers[i]);

@@ -22,10 +22,12 @@
 #include <string.h>
 
 /* The version. A host that was built for one major number does not run with another: it is built anew, and may need changes.
- * The shared object's name has that number. SLC1_VERSION is "major.minor.patch". */
-#define SLC1_VERSION_MAJOR 1
+ * The shared object's name has that number. SLC1_VERSION is "major.minor.patch".
+ * What a host has to look at:
+ *   2  a match of 0 bits compares the whole pattern; it was refused with 7 */
+#define SLC1_VERSION_MAJOR 2
 #define SLC1_VERSION_MINOR 0
-#define SLC1_VERSION_PATCH 1
+#define SLC1_VERSION_PATCH 0
 #define SLC1_VERSION SLC1_DOTTED(SLC1_VERSION_MAJOR, SLC1_VERSION_MINOR, SLC1_VERSION_PATCH)
 #define SLC1_DOTTED(major, minor, patch) SLC1_DOTTED_AS_GIVEN(major, minor, patch)
 #define SLC1_DOTTED_AS_GIVEN(major, minor, patch) #major "." #minor "." #patch
@@ -191,9 +193,9 @@ uint32_t slc1_scan_results(
 
 /* Match: as scan, for the live slots in whose key, from a byte offset on, the first bits are those of the pattern; the
  * most significant bit of a byte comes first. The pattern has (bits + 7) / 8 bytes; spare bits of its last byte are
- * ignored. */
+ * ignored. With bits 0 the pattern is compared whole, and may have any number of bytes from 1 on. */
 
-/* 0, or 11 as with scan; 7 where bits is 0, the pattern has another length, or it runs past the key. */
+/* 0, or 11 as with scan; 7 where the pattern is empty, has another length than bits needs, or runs past the key. */
 uint32_t slc1_match(
     const uint8_t *image, size_t length, SLC1_SIX_NUMBERS, uint64_t offset, uint64_t bits, const uint8_t *pattern,
     size_t pattern_length, uint64_t skip, uint64_t limit, uint32_t *numbers, size_t count);

@@ -92,10 +92,11 @@ def pattern(comparison, o):
     """Offset, bits and pattern: mostly right, taken from a likely key."""
     pick = comparison.random
     key = comparison.images.key(o) if 0 < o.key_size <= 80 else b"\0"
-    offset, bits = pick.randrange(len(key)), pick.randrange(1, 20)
+    offset, bits = pick.randrange(len(key)), pick.choice((0, pick.randrange(1, 20)))
     if pick.random() < 0.1:
         offset, bits = comparison.number(o.key_size), comparison.number(20)
-    needed = min((bits + 7) // 8, 80) + (pick.choice((-1, 1)) if pick.random() < 0.1 else 0)
+    needed = min((bits + 7) // 8, 80) if bits else pick.randrange(len(key) + 1)
+    needed += pick.choice((-1, 1)) if pick.random() < 0.1 else 0
     wanted = bytearray(key[offset:offset + needed].ljust(max(needed, 0), b"\0"))
     if wanted and pick.random() < 0.3:
         wanted[-1] ^= 1 << pick.randrange(8)
@@ -225,6 +226,27 @@ def keys(comparison):
             comparison.same("commit", image, o, b"".join(record_of(o, True, key, 0, b"") for key in new))
 
 
+def whole_patterns(comparison):
+    """Matches of 0 bits: every offset and every length, past the key's end too, and offsets whose sum with the length, or eight
+    times which, would wrap. The pattern is a part of a stored key, or differs from it in one bit."""
+    pick = comparison.random
+    for size in (*range(1, 17), 31, 63, 64):
+        o = second.Options(size, 0, 4, 0, 0, 2)
+        image, stored = bytearray(second.total_size(o)), pick.randbytes(size)
+        others = [stored[:at] + pick.randbytes(size - at) for at in (size // 2, size - 1)] + [pick.randbytes(size // 2) + stored[size // 2:]]
+        second.create(image, o)
+        second.begin(image, o)
+        second.commit(image, o, b"".join(record_of(o, True, key, 0, b"") for key in (stored, *others)))
+        for length in range(size + 3):
+            far = (2**32, 2**61, 2**63, 2**64 - 1 - length, 2**64 - max(length, 1), 2**64 - 1)
+            for offset in (*range(size + 3), *far):
+                wanted = bytearray(stored[offset:offset + length].ljust(length, b"\0"))
+                comparison.same("match", image, o, offset, 0, bytes(wanted), 0, 9, [99] * 5)
+                if wanted:
+                    wanted[pick.randrange(length)] ^= 1 << pick.randrange(8)
+                    comparison.same("match", image, o, offset, 0, bytes(wanted), 0, 9, [99] * 5)
+
+
 def spec(*path):
     with open(os.path.join(CRATES, *path)) as file:
         return file.read()
@@ -246,7 +268,7 @@ def main():
     seed = int(sys.argv[1]) if len(sys.argv) > 1 else 1
     comparison = Comparison(seed)
     began = time.monotonic()
-    for part in (digests, ages, places, readings, creations, writings, user_data, histories, commits, keys):
+    for part in (digests, ages, places, readings, creations, writings, user_data, histories, commits, keys, whole_patterns):
         part(comparison)
     listed = dict(numbers_listed())
     if listed.keys() != set(JUDGED.values()):

@@ -222,7 +222,7 @@ static void full_checks(void)
 
 static void listings(void)
 {
-    const uint8_t twelve_bits[] = {'a', 0x6f}, other[] = {'a', 0x70};
+    const uint8_t twelve_bits[] = {'a', 0x6f}, other[] = {'a', 0x70}, bcd[] = {'b', 'c', 'd'};
     uint32_t numbers[] = {77, 77};
 
     same("scan, list too short", slc1_scan(image, TOTAL, SLC1_OPTIONS(&options), 0, 9, numbers, 0), SLC1_TOO_SHORT);
@@ -235,16 +235,24 @@ static void listings(void)
     same("scan written", slc1_scan_written(image, TOTAL, SLC1_OPTIONS(&options), 0, 9, numbers, 2), 1);
 
     numbers[0] = 77;
-    same("match of 0 bits", slc1_match(image, TOTAL, SLC1_OPTIONS(&options), 0, 0, other, 0, 0, 9, numbers, 2), SLC1_INVALID_INPUT);
+    same("match of an empty pattern", slc1_match(image, TOTAL, SLC1_OPTIONS(&options), 0, 0, bcd, 0, 0, 9, numbers, 2), SLC1_INVALID_INPUT);
+    same("match past the key", slc1_match(image, TOTAL, SLC1_OPTIONS(&options), 1, 0, bcd, 3, 0, 9, numbers, 2), SLC1_INVALID_INPUT);
+    same("match of all of none", slc1_match_total(image, TOTAL, SLC1_OPTIONS(&options), 0, 0, bcd, 2, 0, 9, numbers, 2), 0);
     same("match of none", slc1_match_total(image, TOTAL, SLC1_OPTIONS(&options), 0, 12, other, 2, 0, 9, numbers, 2), 0);
     same("number 0 left alone", numbers[0], 77);
     same("match", slc1_match(image, TOTAL, SLC1_OPTIONS(&options), 0, 12, twelve_bits, 2, 0, 9, numbers, 2), SLC1_DONE);
     same("number 0", numbers[0], 1);
     same("match total", slc1_match_total(image, TOTAL, SLC1_OPTIONS(&options), 0, 12, twelve_bits, 2, 1, 9, numbers, 2), 1);
     same("match written", slc1_match_written(image, TOTAL, SLC1_OPTIONS(&options), 0, 12, twelve_bits, 2, 0, 9, numbers, 2), 1);
+
+    numbers[0] = 77;
+    same("match of a whole pattern", slc1_match(image, TOTAL, SLC1_OPTIONS(&options), 1, 0, bcd, 2, 0, 9, numbers, 2), SLC1_DONE);
+    same("number 0", numbers[0], 1);
+    same("its total", slc1_match_total(image, TOTAL, SLC1_OPTIONS(&options), 1, 0, bcd, 2, 1, 9, numbers, 2), 1);
+    same("its written", slc1_match_written(image, TOTAL, SLC1_OPTIONS(&options), 1, 0, bcd, 2, 0, 9, numbers, 2), 1);
 }
 
-/* A scan, or with bits a match, of the image, with results of count entries: what it answers, and number 0 afterwards. */
+/* A scan, or with a pattern a match, of the image, with results of count entries: what it answers, and number 0 afterwards. */
 static void listed(uint64_t bits, const uint8_t *pattern, uint64_t skip, size_t count, const uint64_t *all, uint32_t first)
 {
     uint32_t numbers[] = {77, 77};
@@ -252,7 +260,7 @@ static void listed(uint64_t bits, const uint8_t *pattern, uint64_t skip, size_t 
     uint32_t answer;
 
     fresh_results(results);
-    if (bits == 0)
+    if (pattern == NULL)
         answer = slc1_scan_results(image, TOTAL, SLC1_OPTIONS(&options), skip, 9, numbers, 2, results, count);
     else
         answer = slc1_match_results(
@@ -265,7 +273,7 @@ static void listed(uint64_t bits, const uint8_t *pattern, uint64_t skip, size_t 
 
 static void listings_reported(void)
 {
-    const uint8_t twelve_bits[] = {'a', 0x6f}, other[] = {'a', 0x70};
+    const uint8_t twelve_bits[] = {'a', 0x6f}, other[] = {'a', 0x70}, whole[] = {'a', 'b'};
     const uint64_t one[] = {SLC1_DONE, 1, 1}, skipped[] = {SLC1_DONE, 1, 0}, none[] = {SLC1_DONE, 0, 0};
     const uint64_t refused[] = {SLC1_INVALID_INPUT, 0, 0};
 
@@ -276,6 +284,8 @@ static void listings_reported(void)
     listed(12, twelve_bits, 1, SLC1_LISTING_RESULTS, skipped, 77);
     listed(12, twelve_bits, 0, 2, one, 77);
     listed(12, other, 0, ROOM, none, 77);
+    listed(0, whole, 0, ROOM, one, 1);
+    listed(0, other, 0, ROOM, none, 77);
     listed(3, other, 0, ROOM, refused, 77);
 }
 

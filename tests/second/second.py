@@ -1,8 +1,8 @@
 """The SLC1 slot cache of document 01, sentence by sentence: the independent second program.
 
-A comment in quotation marks is document 01's text; the code for it stands below it. Answers are
-document 01's numbers. An image is a bytearray, changed in place; calls that only read take bytes
-as well.
+A comment in quotation marks is document 01's text, or with (CR n) document 02's; the code for it
+stands below it. Answers are document 01's numbers. An image is a bytearray, changed in place;
+calls that only read take bytes as well.
 """
 
 from collections import namedtuple
@@ -608,11 +608,15 @@ def scan_results(image, o, skip, limit, numbers, results):
 
 def match_tests(image, o, offset, bits, pattern):
     yield from header_tests(image, o)
-    # "The pattern has exactly the bytes needed; [...] 7 if bits is 0, the pattern's length
-    # differs, or it runs past the key."
-    yield bits == 0, 7
-    yield len(pattern) != (bits + 7) // 8, 7
-    yield offset + len(pattern) > o.key_size, 7
+    if bits == 0:
+        # "0 means the whole pattern, eight bits a byte, and [...] the pattern then has 1 to
+        # key_size - offset bytes. [...] An empty pattern with 0 bits stays 7." (CR 2)
+        yield not 1 <= len(pattern) <= o.key_size - offset, 7
+    else:
+        # "The pattern has exactly the bytes needed; [...] 7 if [...] the pattern's length differs,
+        # or it runs past the key."
+        yield len(pattern) != (bits + 7) // 8, 7
+        yield offset + len(pattern) > o.key_size, 7
 
 
 def first_bits(data, bits):
@@ -620,14 +624,22 @@ def first_bits(data, bits):
     return int.from_bytes(data, "big") >> 8 * len(data) - bits
 
 
+def agrees(part, bits, pattern):
+    # "0 means the whole pattern, eight bits a byte" (CR 2)
+    if bits == 0:
+        return part == pattern
+    # "Match (003) compares a number of bits"
+    return first_bits(part, bits) == first_bits(pattern, bits)
+
+
 def match(image, o, offset, bits, pattern, skip, limit, numbers):
     number = first_of(match_tests(image, o, offset, bits, pattern))
     if number:
         return Listed(number)
-    # "Match (003) compares a number of bits, [...] from a byte offset in the key."
-    end, wanted = offset + len(pattern), first_bits(pattern, bits)
+    # "from a byte offset in the key."
+    end = offset + len(pattern)
     matching = [slot_number for slot_number, key in live_keys(image, o)
-                if first_bits(key[offset:end], bits) == wanted]
+                if agrees(key[offset:end], bits, pattern)]
     return listed(matching, skip, limit, numbers)
 
 

@@ -625,11 +625,30 @@ class Refusals(Case):
         for key in (b"", b"ab", b"abc\0", bytes(65)):
             self.assert_refused(7, lookup, image, BASE, key)
         for offset, bits, pattern in (
-                (0, 0, b""), (0, 0, b"a"), (0, 8, b""), (0, 8, b"ab"), (0, 9, b"a"), (3, 1, b"a"),
-                (1, 17, b"bcd"), (0, 25, b"abcd")):
+                (0, 8, b""), (0, 8, b"ab"), (0, 9, b"a"), (3, 1, b"a"), (1, 17, b"bcd"), (0, 25, b"abcd")):
             self.assert_refused(7, match, image, BASE, offset, bits, pattern, 0, 9, [5])
         for offset, bits, pattern in ((0, 24, b"abc"), (2, 8, b"c"), (1, 9, b"b\x7f")):
             self.assertEqual(match(image, BASE, offset, bits, pattern, 0, 9, [5]), Listed(0, 1, 1))
+
+    def test_match_of_the_whole_pattern(self):
+        """CR 2, on three live keys and a deleted one that would match."""
+        image = begun(BASE, puts(BASE, (b"abc", b"abd", b"bbc", b"abz")), delete(BASE, b"abz"))
+        for offset, pattern, listed in (
+                (0, b"a", [0, 1]), (0, b"ab", [0, 1]), (0, b"abc", [0]), (0, b"b", [2]), (0, b"c", []), (0, b"abz", []),
+                (1, b"b", [0, 1, 2]), (1, b"bc", [0, 2]), (1, b"bd", [1]), (2, b"c", [0, 2]), (2, b"b", [])):
+            numbers = [9] * 4
+            self.assertEqual(match(image, BASE, offset, 0, pattern, 0, 9, numbers), Listed(0, len(listed), len(listed)))
+            self.assertEqual(numbers, listed + [9] * (4 - len(listed)))
+        for offset in (*range(5), 2**32, 2**63, 2**64 - 3, 2**64 - 2, 2**64 - 1):
+            for length in range(5):
+                if length == 0 or offset + length > 3:
+                    self.assert_refused(7, match, image, BASE, offset, 0, b"abcd"[:length], 0, 9, [9])
+                else:
+                    self.assertEqual(match(image, BASE, offset, 0, b"abc"[offset:offset + length], 0, 0, []).answer, 0)
+        self.assert_refused(7, match, image, BASE, 0, 0, bytes(65), 0, 9, [])
+        self.assert_refused(7, match, image, BASE, 0, 0, b"abcd", 0, 9, [])
+        self.assert_refused(11, match, image, BASE, 0, 0, b"a", 0, 9, [9])
+        self.assert_refused(1, match, image, BASE._replace(role=0), 0, 0, b"a", 0, 9, [])
 
     def test_user_data_of_another_length(self):
         for role, length in itertools.product(range(3), (0, 63, 65)):
@@ -779,7 +798,8 @@ class Damage(Case):
         numbers = [5] * 3
         for call, arguments in (
                 (open_check, ()), (full_check, ()), (scan, (1, 3, numbers)),
-                (match, (0, 3, keys[-1][:1], 0, 3, numbers)), *((lookup, (key,)) for key in keys)):
+                (match, (0, 3, keys[-1][:1], 0, 3, numbers)), (match, (0, 0, keys[-1][:1], 0, 3, numbers)),
+                *((lookup, (key,)) for key in keys)):
             result = call(bytes(image), o, *arguments)
             self.assertTrue(result.answer in (0, 9) or result == type(result)(result.answer))
             yield (result, *numbers), image

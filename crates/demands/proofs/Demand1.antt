@@ -31,7 +31,7 @@ use Rattle.demands.specs.Demand1.{Among, headerNumbers, Judges, LeavesAl
 use Rattle.demands.proofs.Belongs.{belongs}
 use Rattle.demands.proofs.Calls.{calls}
 use Rattle.demands.proofs.Exports.{exports}
-use Rattle.demands.proofs.Patterns.{wrong-pattern}
+use Rattle.demands.proofs.Patterns.{match-refused}
 use Rattle.demands.proofs.Numbered.{among, first-among, header-numbered, header-judges, judges-behind, writes-judges}
 use Rattle.demands.proofs.Reading.{open-reads, lookup-reads, check-reads, user-data-reads, scan-reads, match-reads}
 
@@ -150,5 +150,5 @@ demand1 =
       lookup-uncounted = λ o image key h. lookup-reads key .empty o image h .2;
       check-empty = check-reads .empty;
       wrong-length = wrong-length;
-      wrong-pattern = wrong-pattern;
+      wrong-pattern = λ o image offset bits pattern skip limit numbers z wrong. match-refused o image z offset bits pattern wrong skip limit numbers;
     }

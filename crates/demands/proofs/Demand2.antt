@@ -26,7 +26,7 @@ use Rattle.image.specs.Lookup.{lookupOf, indexPart}
 use Rattle.image.proofs.Places.{key-length}
 use Rattle.image.proofs.FullCheck.{Whole, passes-whole, whole-passes, full-check-law}
 use Rattle.listing.specs.Scan.{matches, list, scanOf}
-use Rattle.listing.specs.Match.{agrees, matchIn, matchOf}
+use Rattle.listing.specs.Match.{agrees, bitsCompared, matchOf}
 use Rattle.probing.proofs.Keys.{clash}
 use Rattle.writing.specs.Create.{createTests, freshFields, fresh, createOf}
 use Rattle.writing.specs.State.{writingTests, cleanTest, generationTest, userTests}
@@ -45,22 +45,16 @@ use Rattle.demands.specs.Listings.{RightPattern, Roomy, Lists, Piece}
 use Rattle.demands.specs.Shows.{Shows}
 use Rattle.demands.proofs.Belongs.{belongs}
 use Rattle.demands.proofs.HistoryInvariant.{Held, create-none, writer-header, checkpoint-done, begin-done, held}
-use Rattle.demands.proofs.Patterns.{right-taken}
+use Rattle.demands.proofs.Patterns.{match-list}
 use Rattle.demands.proofs.Pieces.{pieces}
 use Rattle.demands.proofs.Scanned.{few, lists-map}
 
--- scan and match where the header test passes, and match with a right pattern
+-- scan and match where the header test passes
 module _ (o : Options) (image : List ℕ) (z : headerTest o image ≡ 0) where
   scan-list : (skip limit : ℕ) (numbers : List ℕ)
       → scanOf o image skip limit numbers ≡ list (matches (shapeOf image) image (λ key. true)) skip limit numbers
   unfolding scanOf
   scan-list skip limit numbers = rw z refl
-
-  match-list : (offset bits : ℕ) (pattern : List ℕ) → RightPattern o offset bits pattern → (skip limit : ℕ) (numbers : List ℕ)
-      → matchOf o image offset bits pattern skip limit numbers
-      ≡ list (matches (shapeOf image) image (agrees offset bits pattern)) skip limit numbers
-  unfolding matchOf matchIn
-  match-list offset bits pattern right skip limit numbers = rw (z, right-taken o image z offset bits pattern right) refl
 
   -- a listing against one that leaves none out
   listed-piece : (wanted : List ℕ → Bool) (most : ℕ) (room : List ℕ) → Roomy o most room → (skip limit : ℕ) (numbers : List ℕ)
@@ -80,8 +74,8 @@ module _ (o : Options) (image : List ℕ) (z : headerTest o image ≡ 0) where
       → Piece (matchOf o image offset bits pattern 0 most room) skip limit numbers
       (matchOf o image offset bits pattern skip limit numbers)
   matched-piece offset bits pattern right most room roomy skip limit numbers =
-      rw (match-list offset bits pattern right 0 most room, match-list offset bits pattern right skip limit numbers)
-      (listed-piece (agrees offset bits pattern) most room roomy skip limit numbers)
+      rw (match-list o image z offset bits pattern right 0 most room, match-list o image z offset bits pattern right skip limit numbers)
+      (listed-piece (agrees offset (bitsCompared bits pattern) pattern) most room roomy skip limit numbers)
 
 module _ {o : Options} {image : List ℕ} {m : Map} {fields : UserFields} (h : Held o image m fields) where
   pub writer-whole : Whole (writer o) image
@@ -131,7 +125,7 @@ module _ {o : Options} {image : List ℕ} {m : Map} {fields : UserFields} (h : H
               λ key size q. lookup-none o′ image key z (size ∙ sym (fit-key-size o′ image (shapeOf image) fit)) (whole .sound) (mapped key ∙ q) .0;
           scans = λ limit numbers roomy. rw (scan-list o′ image z 0 limit numbers) (listed (λ key. true) limit numbers roomy);
           matches = λ offset bits pattern right limit numbers roomy.
-              rw (match-list o′ image z offset bits pattern right 0 limit numbers) (listed (agrees offset bits pattern) limit numbers roomy);
+              rw (match-list o′ image z offset bits pattern right 0 limit numbers) (listed (agrees offset (bitsCompared bits pattern) pattern) limit numbers roomy);
           opens = rw (z, h .user) refl;
         }
 

@@ -3,6 +3,7 @@ pub mod Demand2
 pub mod Demand3
 pub mod Examples
 pub mod PastTotal
+pub mod WholeLength
 pub mod Owing
 pub mod Calls
 pub mod Exports

@@ -20,7 +20,7 @@ use Rattle.image.specs.declared.check.Checked.{Checked}
 use Rattle.image.specs.Lookup.{nothing, probeOf, lookupBy, lookupIn, lookupOf}
 use Rattle.image.specs.Check.{failed, passes, checkIn, checkOf}
 use Rattle.listing.specs.Scan.{Outcome, refused, chosen, write, list, scanOf}
-use Rattle.listing.specs.Match.{patternWrong, matchIn, matchOf}
+use Rattle.listing.specs.Match.{bitsCompared, patternWrong, matchIn, matchOf}
 use Rattle.host.specs.UserData.{Filled, filled, userDataOf}
 use Rattle.host.proofs.Failed.{after-failed}
 use Rattle.demands.specs.Demand1.{Among, headerNumbers, Refuses, Judges}
@@ -192,5 +192,5 @@ module _ (skip limit : ℕ) (numbers : List ℕ) where
   match-reads offset bits pattern =
       reads (listing numbers) _
       (λ o image.
-      fair-cond (listing numbers) (patternWrong (shapeOf image) offset bits pattern)
+      fair-cond (listing numbers) (patternWrong (shapeOf image) offset (bitsCompared bits pattern) pattern)
       (fair-refused (listing numbers) invalid-input refl) (list-fair _))

@@ -23,7 +23,7 @@ use Rattle.image.specs.Table.{metaOf, keyOf, bucketOf, tableOf}
 use Rattle.image.specs.Lookup.{probeOf, nothing, lookupBy, lookupIn, lookupOf, indexBy, indexPart}
 use Rattle.image.specs.Check.{passes, failed, checkIn, checkOf}
 use Rattle.listing.specs.Scan.{passing, matches, refused, list, scanOf}
-use Rattle.listing.specs.Match.{agrees, matchIn, matchOf}
+use Rattle.listing.specs.Match.{agrees, bitsCompared, matchIn, matchOf}
 use Rattle.slots.proofs.Table.Around.{SameSlot}
 use Rattle.maps.specs.Map.{entryAt, mapOf}
 use Rattle.maps.proofs.MapWrites.{same-entry}
@@ -161,5 +161,5 @@ module _ (o : Options) (image image′ : List ℕ) (same : SameToTotal o image i
       → matchOf o image′ offset bits pattern skip limit numbers ≡ matchOf o image offset bits pattern skip limit numbers
   unfolding matchOf matchIn
   same-match offset bits pattern skip limit numbers =
-      behind (λ t i. matchIn t i offset bits pattern skip limit numbers) (refused numbers)
-      (λ z. rw (matches-in o image image′ same z (agrees offset bits pattern)) refl)
+      behind (λ t i. matchIn t i offset (bitsCompared bits pattern) pattern skip limit numbers) (refused numbers)
+      (λ z. rw (matches-in o image image′ same z (agrees offset (bitsCompared bits pattern) pattern)) refl)

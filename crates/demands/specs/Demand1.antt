@@ -109,7 +109,7 @@ pub record Demand1 : Type 2 where
   -- "A key of the wrong length is refused, never cut or padded."
   pub wrong-length : (o : Options) (image key : List ℕ) → headerTest o image ≡ done → (length key ≡ o .«key_size» → ⊥)
       → lookupOf o image key ≡ nothing invalid-input
-  -- "7 if bits is 0, the pattern's length differs, or it runs past the key"
+  -- "7 if" the pattern is empty with 0 bits (CR 2), "the pattern's length differs, or it runs past the key"
   pub wrong-pattern : (o : Options) (image : List ℕ) (offset bits : ℕ) (pattern : List ℕ) (skip limit : ℕ) (numbers : List ℕ)
       → headerTest o image ≡ done → (RightPattern o offset bits pattern → ⊥)
       → matchOf o image offset bits pattern skip limit numbers ≡ refused numbers invalid-input

@@ -23,7 +23,7 @@ use Rattle.header.specs.Sizes.{totalSize}
 use Rattle.image.specs.Lookup.{lookupOf, indexPart}
 use Rattle.image.specs.Check.{passes, checkOf}
 use Rattle.listing.specs.Scan.{scanOf}
-use Rattle.listing.specs.Match.{agrees, matchOf}
+use Rattle.listing.specs.Match.{agrees, bitsCompared, matchOf}
 use Rattle.writing.specs.Create.{fresh, createOf}
 use Rattle.writing.specs.State.{beginOf, checkpointOf, invalidateOf}
 use Rattle.applying.specs.Apply.{committed}
@@ -46,7 +46,7 @@ pub record ReadsBack (o : Options) (image : List ℕ) (m : Map) (fields : UserFi
       → Lists o image m (λ key. true) (scanOf o image 0 limit numbers)
   pub matches : (offset bits : ℕ) (pattern : List ℕ) → RightPattern o offset bits pattern → (limit : ℕ) (numbers : List ℕ)
       → Roomy o limit numbers
-      → Lists o image m (agrees offset bits pattern) (matchOf o image offset bits pattern 0 limit numbers)
+      → Lists o image m (agrees offset (bitsCompared bits pattern) pattern) (matchOf o image offset bits pattern 0 limit numbers)
   -- "Open check ... with 0 it hands out the user fields"
   pub opens : openOf o image ≡ record { answer = done; fields = fields }
 

@@ -6,6 +6,7 @@ pub mod History
 pub mod Listings
 pub mod Shows
 pub mod PastTotal
+pub mod WholeLength
 pub mod Calls
 pub mod Exports
 pub mod Outcomes

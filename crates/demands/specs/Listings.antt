@@ -13,10 +13,11 @@ use Rattle.listing.specs.Scan.{Outcome}
 use Rattle.maps.specs.Map.{Entry, Map}
 use Rattle.demands.specs.Shows.{Shows}
 
--- "The pattern has exactly the bytes needed" for one bit or more, inside the key from the offset on
+-- "The pattern has exactly the bytes needed", which with 0 bits are those it has (CR 2), one or more; inside the key from the
+-- offset on
 pub record RightPattern (o : Options) (offset bits : ℕ) (pattern : List ℕ) : Type 0 where
-  pub some-bits : 0 < bits
-  pub bytes : length pattern ≡ (bits + 7) / 8
+  pub some-bytes : 0 < length pattern
+  pub bytes : (bits ≡ 0 → ⊥) → length pattern ≡ (bits + 7) / 8
   pub inside : offset + length pattern ≤ o .«key_size»
 
 -- a limit and a lent list that are large enough for any image

@@ -1,16 +1,18 @@
 -- Lists compared bit by bit, the most significant bit of a byte first, and compared byte by byte: of bytes both say the same.
 -- Assumes nothing.
-use Prim.Native.Nat.{ℕ, zero, suc, _+_, _-_, _/_, _%_, _^_, _≤_, _<_}
+use Prim.Native.Nat.{ℕ, zero, suc, _+_, _*_, _-_, _/_, _%_, _^_, _≤_, _<_}
 use mathlib.Core.Bool.{Bool, true, false, _&&_}
 use mathlib.Core.Path.{_≡_, refl, sym, _∙_, ap, ap₂}
 use mathlib.Core.List.{List}
 use native.Mathlib.Nat.{add-zero, add-suc, div-one}
+use native.Mathlib.Numerals.{add-one}
 use native.Mathlib.Omega.{arith}
 use lib.Dec.{eqb}
-use lib.ListN.{getD, drop}
+use lib.ListN.{length, getD, take, drop}
 use lib.Pow.{shr-shr}
-use lib.Seq.{getD-drop}
+use lib.Seq.{getD-drop, drop-cons, take-length}
 use borrow.Author.Tests.{eqb-true, eqb-false, eq-eqb, ne-eqb}
+use Rattle.numbers.specs.Bytes.{Bytes, part, same}
 use Rattle.probing.specs.Counting.{allTo}
 use Rattle.listing.specs.Match.{bitAt, agrees}
 
@@ -125,3 +127,25 @@ same-none xs ys = refl
 pub agrees-same : (offset bits : ℕ) (pattern key : List ℕ) → agrees offset bits pattern key ≡ sameBits bits (drop offset key) pattern
 unfolding agrees sameBits
 agrees-same offset bits pattern key = refl
+
+-- the bits of n bytes of each are the same where the bytes are
+same-whole :
+    (n : ℕ) (xs ys : List ℕ) (i j : ℕ) → Bytes xs → Bytes ys → i + n ≤ length xs → j + n ≤ length ys
+    → sameBits (8 * n) (drop i xs) (drop j ys) ≡ same (take n (drop i xs)) (take n (drop j ys))
+unfolding same
+same-whole zero xs ys i j bx by hx hy = same-none (drop i xs) (drop j ys)
+same-whole (suc n) xs ys i j bx by hx hy =
+    ap (λ (k : ℕ). sameBits k (drop i xs) (drop j ys)) (omega arith)
+    ∙ same-step xs ys i j (bx i) (by j) (8 * n)
+    ∙ ap (λ (t : Bool). eqb (getD xs i 0) (getD ys j 0) && t) (same-whole n xs ys (i + 1) (j + 1) bx by (omega arith) (omega arith))
+    ∙ rw (drop-cons xs i 0 (omega arith), drop-cons ys j 0 (omega arith), add-one i, add-one j) refl
+
+-- so a match of all bits of a pattern is one of its bytes
+pub agrees-bytes :
+    (offset : ℕ) (pattern key : List ℕ) → Bytes pattern → Bytes key → offset + length pattern ≤ length key
+    → agrees offset (8 * length pattern) pattern key ≡ same (part key offset (length pattern)) pattern
+unfolding part
+agrees-bytes offset pattern key bp bk h =
+    agrees-same offset (8 * length pattern) pattern key
+    ∙ same-whole (length pattern) key pattern offset 0 bk bp h (omega arith)
+    ∙ ap (same (take (length pattern) (drop offset key))) (take-length pattern)

@@ -1,9 +1,13 @@
 // Match: the live slots whose keys agree with a pattern of bits.
 ghost use mathlib.Core.Path.{_≡_};
-ghost use Prim.Native.Nat.{_+_, _/_};
+ghost use mathlib.Core.Bool.{not, _||_};
+ghost use Prim.Native.Nat.{_+_, _/_, _≤_};
+ghost use lib.Dec.{eqb, ltb};
+ghost use lib.ListN.{length};
+ghost use Rattle.header.specs.Sizes.{most-key-size};
 ghost use Rattle.header.specs.Shaped.{Shaped};
 ghost use Rattle.listing.specs.Scan.{Lists};
-ghost use Rattle.listing.specs.Match.{patternWrong, matchIn, matchOf};
+ghost use Rattle.listing.specs.Match.{bitsCompared, matchIn, matchOf};
 use crate::listed::Listed;
 use crate::listed::refused;
 use crate::select::select;
@@ -21,21 +25,36 @@ fn bytes_for(bits: u64) -> u64
     bits / 8 + (bits % 8 + 7) / 8
 }
 
-// Whether bits is 0, the pattern's length differs, or it runs past the key. No sum is formed.
-fn pattern_wrong(s: Shape, offset: u64, bits: u64, pattern: &[u8]) -> bool
-    ensures { λ r. ⌜ r ≡ patternWrong s offset bits (now (pattern .entry)) ⌝ }
+// Whether the pattern has not exactly the bytes needed for one bit or more.
+fn length_wrong(bits: u64, pattern: &[u8]) -> bool
+    ensures { λ r. ⌜ r ≡ (eqb bits 0 || not (eqb (length (now (pattern .entry))) ((bits + 7) / 8))) ⌝ }
 {
     if bits == 0 {
         return true;
     }
+    (pattern.len() as u64) != bytes_for(bits)
+}
+
+// Whether the pattern runs past a key of this size from the offset on. No sum is formed.
+fn runs_past(size: usize, offset: u64, pattern: &[u8]) -> bool
+    ensures { λ r. ⌜ r ≡ ltb size (offset + length (now (pattern .entry))) ⌝ }
+{
     let length = pattern.len();
-    if (length as u64) != bytes_for(bits) {
+    if size < length {
         return true;
     }
-    if s.layout.key_size < length {
-        return true;
+    ((size - length) as u64) < offset
+}
+
+// How many bits are compared: as many as are asked for, and with 0 all that the pattern has.
+fn bits_compared(bits: u64, pattern: &[u8]) -> u64
+    requires { ⌜ length (now pattern) ≤ most-key-size ⌝ }
+    ensures { λ r. ⌜ r ≡ bitsCompared bits (now (pattern .entry)) ⌝ }
+{
+    if bits != 0 {
+        return bits;
     }
-    ((s.layout.key_size - length) as u64) < offset
+    8 * (pattern.len() as u64)
 }
 
 // The match in an image of this shape.
@@ -50,21 +69,25 @@ fn match_in(
     numbers: &mut [u32],
 ) -> Listed
     requires { ⌜ Shaped s (now image) ⌝ }
-    ensures { λ r. ⌜ Lists (matchIn s (now (image .entry)) offset bits (now (pattern .entry)) skip limit (now (numbers .entry))) r (now (numbers .exit)) ⌝ }
+    ensures { λ r. ⌜ Lists (matchIn s (now (image .entry)) offset (bitsCompared bits (now (pattern .entry))) (now (pattern .entry)) skip limit (now (numbers .entry))) r (now (numbers .exit)) ⌝ }
 {
-    if pattern_wrong(s, offset, bits, pattern) {
+    if runs_past(s.layout.key_size, offset, pattern) {
+        return refused(INVALID_INPUT);
+    }
+    let compared = bits_compared(bits, pattern);
+    if length_wrong(compared, pattern) {
         return refused(INVALID_INPUT);
     }
     let wanted = Wanted::Bits {
         offset: offset as usize,
-        bits: bits as usize,
+        bits: compared as usize,
     };
     select(image, s, wanted, pattern, skip, limit, numbers)
 }
 
-// Lists the live slots of an image whose keys have the pattern's bits, most significant first, from a byte offset on: their
-// numbers, ascending, after a skip and up to a limit. Entries past those written, and the whole list with any answer but 0,
-// are unchanged.
+// Lists the live slots of an image whose keys have the pattern's bits, most significant first, from a byte offset on, and with 0
+// bits the whole pattern: their numbers, ascending, after a skip and up to a limit. Entries past those written, and the whole list
+// with any answer but 0, are unchanged.
 pub fn match_bits(
     image: &[u8],
     o: Options,

@@ -5,7 +5,7 @@ use Rattle.header.specs.declared.shape.Shape.{Shape}
 use Rattle.header.proofs.Fit.{fit-shaped}
 use Rattle.image.proofs.Judging.{after-fit, after-refused}
 use Rattle.listing.specs.Scan.{refused}
-use Rattle.listing.specs.Match.{matchIn, matchOf}
+use Rattle.listing.specs.Match.{bitsCompared, matchIn, matchOf}
 use Rattle.listing.proofs.Listing.{same-outcome}
 use borrow.Author.Needs.{needs}
 use Rattle.listing.proofs.matching.match_bits.Statement.{statement}
@@ -36,7 +36,7 @@ unfolding matchOf
 returns c =
     let a = c .before .before .before .before .before .before .before .before .before .before .before .args in
     let e =
-    after-fit (λ (s : Shape). matchIn s (a .image .now) (a .offset) (a .bits) (a .pattern .now) (a .skip) (a .limit) (a .numbers .now))
+    after-fit (λ (s : Shape). matchIn s (a .image .now) (a .offset) (bitsCompared (a .bits) (a .pattern .now)) (a .pattern .now) (a .skip) (a .limit) (a .numbers .now))
     (refused (a .numbers .now)) (a .o) (a .image .now) _
     (sym (c .before .before .before .before .before .before .before .judge .ensures) ∙ c .before .before .before .before .before .judged .given .1) in
     same-outcome e (c .before .before .match-in .ensures)
@@ -46,7 +46,7 @@ unfolding matchOf
 returns-2 c =
     let a = c .before .before .before .before .before .before .before .before .args in
     let e =
-    after-refused (λ (s : Shape). matchIn s (a .image .now) (a .offset) (a .bits) (a .pattern .now) (a .skip) (a .limit) (a .numbers .now))
+    after-refused (λ (s : Shape). matchIn s (a .image .now) (a .offset) (bitsCompared (a .bits) (a .pattern .now)) (a .pattern .now) (a .skip) (a .limit) (a .numbers .now))
     (refused (a .numbers .now)) (a .o) (a .image .now) _
     (sym (c .before .before .before .before .judge .ensures) ∙ c .before .before .judged2 .given .1) in
     same-outcome e (c .refused .ensures, refl)
