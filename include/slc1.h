@@ -23,8 +23,8 @@
 
 /* The version. A host that was built for one major number does not run with another: it is built anew, and may need changes.
  * The shared object's name has that number. SLC1_VERSION is "major.minor.patch".
- * What a host has to look at:
- *   2  a match of 0 bits compares the whole pattern; it was refused with 7 */
+ * What each major number changed for a host:
+ *   2  a match of 0 bits compares the whole pattern; before, it was refused with 7 */
 #define SLC1_VERSION_MAJOR 2
 #define SLC1_VERSION_MINOR 0
 #define SLC1_VERSION_PATCH 0

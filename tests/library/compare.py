@@ -205,6 +205,15 @@ def commits(comparison):
             comparison.same("commit", image, comparison.images.asked(o), comparison.images.batch(o, 8))
 
 
+def holding(o, *keys):
+    """An image that its writer has begun, with these keys."""
+    image = bytearray(second.total_size(o))
+    second.create(image, o)
+    second.begin(image, o)
+    second.commit(image, o, b"".join(record_of(o, True, key, 0, b"") for key in keys))
+    return image
+
+
 def keys(comparison):
     """Keys of every length, with a difference at every byte. A lookup where a bucket has the key's hash, and its slot a key that
     differs in that byte alone; a commit, to an ordered image, of two keys that first differ there, from each other and from the
@@ -212,10 +221,8 @@ def keys(comparison):
     pick = comparison.random
     for size in range(1, 65):
         o = second.Options(size, 0, 3, 0, 1, 2)
-        image, stored = bytearray(second.total_size(o)), pick.randbytes(size)
-        second.create(image, o)
-        second.begin(image, o)
-        second.commit(image, o, record_of(o, True, stored, 0, b""))
+        stored = pick.randbytes(size)
+        image = holding(o, stored)
         for at in range(size):
             first, then = pick.sample([byte for byte in range(256) if byte != stored[at]], 2)
             asked = stored[:at] + bytes([first]) + stored[at + 1:]
@@ -232,11 +239,9 @@ def whole_patterns(comparison):
     pick = comparison.random
     for size in (*range(1, 17), 31, 63, 64):
         o = second.Options(size, 0, 4, 0, 0, 2)
-        image, stored = bytearray(second.total_size(o)), pick.randbytes(size)
-        others = [stored[:at] + pick.randbytes(size - at) for at in (size // 2, size - 1)] + [pick.randbytes(size // 2) + stored[size // 2:]]
-        second.create(image, o)
-        second.begin(image, o)
-        second.commit(image, o, b"".join(record_of(o, True, key, 0, b"") for key in (stored, *others)))
+        stored, half = pick.randbytes(size), size // 2
+        beginnings = [stored[:at] + pick.randbytes(size - at) for at in (half, size - 1)]
+        image = holding(o, stored, *beginnings, pick.randbytes(half) + stored[half:])
         for length in range(size + 3):
             far = (2**32, 2**61, 2**63, 2**64 - 1 - length, 2**64 - max(length, 1), 2**64 - 1)
             for offset in (*range(size + 3), *far):

@@ -646,7 +646,6 @@ class Refusals(Case):
                 else:
                     self.assertEqual(match(image, BASE, offset, 0, b"abc"[offset:offset + length], 0, 0, []).answer, 0)
         self.assert_refused(7, match, image, BASE, 0, 0, bytes(65), 0, 9, [])
-        self.assert_refused(7, match, image, BASE, 0, 0, b"abcd", 0, 9, [])
         self.assert_refused(11, match, image, BASE, 0, 0, b"a", 0, 9, [9])
         self.assert_refused(1, match, image, BASE._replace(role=0), 0, 0, b"a", 0, 9, [])
 
