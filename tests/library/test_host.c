@@ -237,7 +237,7 @@ static void listings(void)
     numbers[0] = 77;
     same("match of an empty pattern", slc1_match(image, TOTAL, SLC1_OPTIONS(&options), 0, 0, bcd, 0, 0, 9, numbers, 2), SLC1_INVALID_INPUT);
     same("match past the key", slc1_match(image, TOTAL, SLC1_OPTIONS(&options), 1, 0, bcd, 3, 0, 9, numbers, 2), SLC1_INVALID_INPUT);
-    same("match of all of none", slc1_match_total(image, TOTAL, SLC1_OPTIONS(&options), 0, 0, bcd, 2, 0, 9, numbers, 2), 0);
+    same("match of a whole pattern at another offset", slc1_match_total(image, TOTAL, SLC1_OPTIONS(&options), 0, 0, bcd, 2, 0, 9, numbers, 2), 0);
     same("match of none", slc1_match_total(image, TOTAL, SLC1_OPTIONS(&options), 0, 12, other, 2, 0, 9, numbers, 2), 0);
     same("number 0 left alone", numbers[0], 77);
     same("match", slc1_match(image, TOTAL, SLC1_OPTIONS(&options), 0, 12, twelve_bits, 2, 0, 9, numbers, 2), SLC1_DONE);
