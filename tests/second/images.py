@@ -51,8 +51,8 @@ class Images:
         return b"".join(self.record(o) for _ in range(self.random.randrange(most + 1)))
 
     def history(self, o, commits=6):
-        """An image that a writer may have left, in a buffer that is sometimes longer."""
-        image = bytearray(self.random.randbytes(second.total_size(o) + self.random.choice((0, 0, 0, 1, 40))))
+        """An image that a writer may have left."""
+        image = bytearray(self.random.randbytes(second.total_size(o)))
         second.create(image, o)
         second.begin(image, o)
         for _ in range(self.random.randrange(commits + 1)):
@@ -91,7 +91,7 @@ class Images:
 
     def damage_length(self, image, o):
         total = second.total_size(o)
-        length = self.random.choice((0, 1, 255, 256, total - 1, total, total + 1, total + 100))
+        length = self.random.choice((0, 1, 255, 256, total - 1, total, total + 1, total + 8, 2 * total))
         image[length:] = b""
         image.extend(self.random.randbytes(max(length - len(image), 0)))
 

@@ -185,10 +185,9 @@ def header_tests(image, o):
     # "9. bucket_count below 2 or no power of two: 1. Another power of two than the rule's: 2."
     yield h.bucket_count < 2 or h.bucket_count & (h.bucket_count - 1) != 0, 1
     yield h.bucket_count != bucket_count(o), 2
-    # "10. An offset wrong, or the image shorter than its total size: 1. A longer image is
-    # allowed (002); bytes past the total are never read or changed."
+    # "10. An offset wrong, or a length other than the total: 1." (CR 8)
     yield h.slots_offset != 256 or h.buckets_offset != buckets_offset(o), 1
-    yield len(image) < total_size(o), 1
+    yield len(image) != total_size(o), 1
     # "11. live_count = bucket_used, and bucket_used + bucket_tombstones <= slot_highwater <=
     # slot_capacity, else 1."
     yield h.live_count != h.bucket_used, 1

@@ -139,6 +139,7 @@ class BenchExamples(Case):
         image = fresh(BENCH)
         self.assertEqual(open_check(image[:45311], BENCH).answer, 1)
         self.assertEqual(open_check(image, BENCH).answer, 0)
+        self.assertEqual(open_check(image + b"\0", BENCH).answer, 1)
 
     def test_sums_by_homes(self):
         for homes, probes in (((), 0), ((3, 3), 3), ((7, 7), 3), ((2, 2, 3), 5), ((7, 7, 0, 0), 8)):
@@ -190,9 +191,12 @@ class Bytes(Case):
         return packed(generation, crc32c_bitwise(packed(0, 0)))
 
     def test_create_writes_the_total_and_nothing_past_it(self):
-        buffer = bytearray(b"\xee" * (total_size(BASE) + 5))
-        self.assertEqual(create(buffer, BASE._replace(ordered=1)), 0)
+        buffer, o = bytearray(b"\xee" * (total_size(BASE) + 5)), BASE._replace(ordered=1)
+        self.assertEqual(create(buffer, o), 0)
         self.assertEqual(buffer, self.header(ordered=1) + bytes(4 * 32 + 8 * 16) + b"\xee" * 5)
+        # "the caller must lend exactly the total afterwards" (CR 8)
+        self.assertEqual(header_test(buffer, o), 1)
+        self.assertEqual(header_test(buffer[:-5], o), 0)
 
     def test_writing_calls(self):
         first, second, third = keys_with_homes(BASE, (7, 7, 2))
@@ -498,7 +502,8 @@ class Readings(Case):
     def test_reading_20_program_on_empty_and_long_input(self):
         image = bytes(fresh(BENCH))
         for standard_input, answer in ((b"", 10), (bytes(65537), 7), (image.ljust(65537), 7),
-                                       (image.ljust(65536), 0), (image[:-1], 1), (bytes(65536), 2)):
+                                       (image.ljust(65536), 1), (image.ljust(45313), 1),
+                                       (image[:-1], 1), (bytes(65536), 2)):
             self.assertEqual(fullcheck_program(standard_input),
                              b"answer %d live 0 tombstones 0 probes 0\n" % answer)
 
@@ -535,7 +540,8 @@ FAULTS = [
     *field_faults(9, 1, {"bucket_count": 0}, {"bucket_count": 1}, {"bucket_count": 12}),
     *field_faults(9, 2, {"bucket_count": 4}, {"bucket_count": 16}, {"bucket_count": 2**63}),
     *field_faults(10, 1, {"slots_offset": 264}, {"buckets_offset": 392}),
-    Fault(10, 1, length=256), Fault(10, 1, length=total_size(BASE) - 1),
+    *(Fault(10, 1, length=length) for length in (
+        256, total_size(BASE) - 1, total_size(BASE) + 1, total_size(BASE) + 8, 2 * total_size(BASE))),
     *field_faults(11, 1, {"live_count": 1, "slot_highwater": 1}, {"bucket_tombstones": 1},
                   {"bucket_used": 1, "slot_highwater": 1}, {"slot_highwater": 5}),
     Fault(12, 1, {"role": 0}, {"state": DIRTY}),
@@ -543,12 +549,14 @@ FAULTS = [
 
 
 def faulty(*faults):
+    """The image and the options that have these faults; where it is longer, another image begins behind it."""
     image, o = fresh(BASE), BASE
     for fault in faults:
         write_fields(image, **fault.fields)
         o = o._replace(**fault.options)
     image[0x70] ^= sum(fault.crc for fault in faults)
-    return image[:min(len(image) if f.length is None else f.length for f in faults)], o
+    lengths = (fault.length for fault in faults if fault.length is not None)
+    return (image + fresh(BASE))[:min(lengths, default=len(image))], o
 
 
 class Refusals(Case):
@@ -783,8 +791,8 @@ class Damage(Case):
             write_fields(image)
         return image if chance.random() < 0.95 else image[:chance.randrange(len(image))]
 
-    def outcomes(self, image, o, keys):
-        """Each call's answer and what it leaves of the image; a refusal leaves all of it."""
+    def answers(self, image, o, keys):
+        """Each call's answer; a refusal leaves all that is lent, and gives nothing else."""
         for call, arguments in (
                 (begin, ()), (checkpoint, ()), (invalidate, ()), (set_user_fields, (1, bytes(64))),
                 (commit, (b"",)), (commit, (put(o, keys[0]) + delete(o, keys[-1]),)),
@@ -793,15 +801,17 @@ class Damage(Case):
             answer = call(changed, o, *arguments)
             self.assertTrue(answer == 0 or changed == image)
             self.assertTrue(answer != 0 or call != commit or full_check(changed, o).answer == 0)
-            yield answer, changed
+            yield answer
         numbers = [5] * 3
         for call, arguments in (
                 (open_check, ()), (full_check, ()), (scan, (1, 3, numbers)),
                 (match, (0, 3, keys[-1][:1], 0, 3, numbers)), (match, (0, 0, keys[-1][:1], 0, 3, numbers)),
                 *((lookup, (key,)) for key in keys)):
+            before = list(numbers)
             result = call(bytes(image), o, *arguments)
             self.assertTrue(result.answer in (0, 9) or result == type(result)(result.answer))
-            yield (result, *numbers), image
+            self.assertTrue(result.answer == 0 or numbers == before)
+            yield result.answer
 
     def assert_demand_3(self, image, o, keys, checked):
         slots = [5] * o.slot_capacity
@@ -824,11 +834,11 @@ class Damage(Case):
         for _ in range(1000):
             image, o, keys = chance.choice(images)
             image, o = self.damaged(chance, image, o), o._replace(role=chance.choice((0, 1, 2, 2)))
-            outcomes = list(self.outcomes(image, o, keys))
+            list(self.answers(image, o, keys))
             if len(image) == total_size(o):
-                tail = chance.randbytes(8)
-                self.assertEqual(list(self.outcomes(image + tail, o, keys)),
-                                 [(result, left + tail) for result, left in outcomes])
+                # "an image with half of another behind it" (CR 8): 1, or an earlier test's number
+                longer = image + image[:chance.choice((1, 8, len(image) // 2, len(image)))]
+                self.assertEqual(set(self.answers(longer, o, keys)), {header_test(image, o) or 1})
             checked = full_check(image, o)
             seen.add((header_test(image, o), checked.answer))
             if checked.answer == 0:

@@ -1,26 +1,23 @@
--- What the steps of a commit keep: the length, the header and what lies behind the buckets; so the shape still fits.
+-- What the steps of a commit keep: the length and the header; so the shape still fits.
 -- Assumes nothing.
 use Prim.Native.Nat.{ℕ, zero, suc, _+_, _*_, _-_, _%_, _≤_, _<_}
-use mathlib.Core.Path.{_≡_, refl, ap}
+use mathlib.Core.Path.{_≡_, refl}
 use mathlib.Core.Bool.{Bool, true, false, cond, not, _&&_}
 use mathlib.Core.List.{List}
 use native.Mathlib.Nat.{mod-lt}
 use native.Mathlib.Omega.{arith}
 use lib.Dec.{eqb, ltb}
 use lib.ListN.{length}
-use Rattle.numbers.specs.Bytes.{word}
 use Rattle.digests.specs.Fnv.{fnv1a64}
 use Rattle.probing.specs.Probe.{Probed, found, absent, broken}
 use Rattle.probing.specs.Table.{tombstoneCount}
-use Rattle.header.specs.declared.shape.Layout.{Layout}
 use Rattle.header.specs.declared.shape.Shape.{Shape}
-use Rattle.header.specs.Fields.{value, generation}
 use Rattle.header.specs.Shaped.{Shaped}
 use Rattle.header.specs.Sizes.{bucketsOffset}
 use Rattle.image.specs.Table.{tableOf}
 use Rattle.image.specs.Lookup.{probeOf}
 use Rattle.image.proofs.Looked.{found-below}
-use Rattle.slots.proofs.Table.Around.{Around, around-self, around-then, around-bytes, around-shaped}
+use Rattle.slots.proofs.Table.Around.{Around, around-self, around-then, around-shaped}
 use Rattle.slots.proofs.Table.Rewritten.{rewritten-around}
 use Rattle.slots.proofs.Table.Removed.{removed-around}
 use Rattle.slots.proofs.Table.Appended.{appended-around}
@@ -33,19 +30,14 @@ use Rattle.applying.specs.Prepared.{oneAppended, appendedTo}
 use Rattle.batch.proofs.Records.{record-length}
 
 -- one of two images that keep it keeps it
-around-either : {layout : Layout} {image a b : List ℕ} (t : Bool) → Around layout image a → Around layout image b → Around layout image (cond t a b)
+around-either : {image a b : List ℕ} (t : Bool) → Around image a → Around image b → Around image (cond t a b)
 around-either true p q = p
 around-either false p q = q
-
--- the generation is still that of the image
-pub around-generation : {layout : Layout} {image image′ : List ℕ} → Around layout image image′ → value image′ generation ≡ value image generation
-unfolding value
-around-generation k = ap word (around-bytes k generation)
 
 -- an image that passed the header test holds a header
 pub header-inside : (s : Shape) (image : List ℕ) → Shaped s image → 256 ≤ length image
 unfolding bucketsOffset
-header-inside s image fit = omega (arith, fit .laid .offset, fit .laid .inside)
+header-inside s image fit = omega (arith, fit .laid .offset, fit .laid .size)
 
 -- the shape with other slots given out
 module _ (s : Shape) (image : List ℕ) (fit : Shaped s image) (n : ℕ) (more : s .«slot_highwater» ≤ n) (room : n ≤ s .layout .«slot_capacity») where
@@ -57,7 +49,7 @@ module _ (s : Shape) (image : List ℕ) (fit : Shaped s image) where
   -- a record acts on a live key
   live-kept :
       (r : List ℕ) → length r ≡ s .layout .«slot_size» → (p : Probed) → probeOf s image (keyIn (s .layout) r) ≡ p
-      → Around (s .layout) image (onLive s image r p)
+      → Around image (onLive s image r p)
   live-kept r l (found n count) e =
       let inside : n < s .layout .«slot_capacity» = omega (arith, found-below s image (keyIn (s .layout) r) n count e, fit .highwater) in
       let b = (fnv1a64 (keyIn (s .layout) r) % s .layout .«bucket_count» + (count - 1)) % s .layout .«bucket_count» in
@@ -66,7 +58,7 @@ module _ (s : Shape) (image : List ℕ) (fit : Shaped s image) where
   live-kept r l (absent count) e = around-self
   live-kept r l broken e = around-self
 
-  pub acted-kept : (new : ℕ → Bool) (batch : List ℕ) (i : ℕ) → i < recordCount (s .layout) batch → Around (s .layout) image (acted s new batch i image)
+  pub acted-kept : (new : ℕ → Bool) (batch : List ℕ) (i : ℕ) → i < recordCount (s .layout) batch → Around image (acted s new batch i image)
   unfolding acted recordKey
   acted-kept new batch i l =
       around-either (decides (s .layout) batch i && not (new i))
@@ -75,24 +67,22 @@ module _ (s : Shape) (image : List ℕ) (fit : Shaped s image) where
   -- the record of a mark is appended
   pub one-kept :
       (batch marks : List ℕ) (k : ℕ) → s .«slot_highwater» + k < s .layout .«slot_capacity»
-      → markedAt marks (recordCount (s .layout) batch) k < recordCount (s .layout) batch → Around (s .layout) image (oneAppended s batch marks k image)
+      → markedAt marks (recordCount (s .layout) batch) k < recordCount (s .layout) batch → Around image (oneAppended s batch marks k image)
   unfolding oneAppended withSlots withCounters
   one-kept batch marks k room l =
       let i = markedAt marks (recordCount (s .layout) batch) k in
-      let a =
       appended-around (withSlots s (s .«slot_highwater» + k)) image
       (slots-shaped s image fit (s .«slot_highwater» + k) (omega arith) (omega arith)) room (recordAt (s .layout) batch i)
-      (record-length (s .layout) batch i l) in
-      record { size = a .size; header = a .header; behind = a .behind }
+      (record-length (s .layout) batch i l)
 
-  pub tidied-kept : Around (s .layout) image (tidied s image)
+  pub tidied-kept : Around image (tidied s image)
   unfolding tidied
   tidied-kept =
       around-either (ltb (s .layout .«bucket_count») (4 * tombstoneCount (tableOf s image))) (rebuilt-around s image fit) (around-self)
 
 module _ (s : Shape) (image : List ℕ) (fit : Shaped s image) (batch : List ℕ) where
   -- all records act
-  pub live-all-kept : (new : ℕ → Bool) (i : ℕ) → i ≤ recordCount (s .layout) batch → Around (s .layout) image (actedTo s new image batch i)
+  pub live-all-kept : (new : ℕ → Bool) (i : ℕ) → i ≤ recordCount (s .layout) batch → Around image (actedTo s new image batch i)
   unfolding actedTo
   live-all-kept new zero l = around-self
   live-all-kept new (suc i) l =
@@ -101,7 +91,7 @@ module _ (s : Shape) (image : List ℕ) (fit : Shaped s image) (batch : List ℕ
 
   -- all new keys are appended
   module _ (marks : List ℕ) (count : ℕ) (room : s .«slot_highwater» + count ≤ s .layout .«slot_capacity») (there : (k : ℕ) → k < count → markedAt marks (recordCount (s .layout) batch) k < recordCount (s .layout) batch) where
-    pub new-all-kept : (k : ℕ) → k ≤ count → Around (s .layout) image (appendedTo s batch marks image k)
+    pub new-all-kept : (k : ℕ) → k ≤ count → Around image (appendedTo s batch marks image k)
     unfolding appendedTo
     new-all-kept zero l = around-self
     new-all-kept (suc k) l =

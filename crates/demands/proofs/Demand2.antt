@@ -4,11 +4,11 @@ use Prim.Native.Nat.{ℕ, zero, suc}
 use mathlib.Core.Path.{_≡_, refl, sym, ap, _∙_}
 use mathlib.Core.Bool.{Bool, true, false}
 use mathlib.Core.Logic.{_↔_}
-use mathlib.Core.List.{List, [], _∷_, _++_}
+use mathlib.Core.List.{List, [], _∷_}
 use mathlib.Core.Option.{some}
 use native.Mathlib.Omega.{arith}
 use lib.Dec.{T}
-use lib.ListN.{length, drop}
+use lib.ListN.{length}
 use Rattle.header.specs.declared.options.Options.{Options}
 use Rattle.header.specs.declared.open.UserFields.{UserFields}
 use Rattle.header.specs.declared.shape.Judged.the-variants.{Fit}
@@ -19,7 +19,6 @@ use Rattle.header.specs.State.{CLEAN, withRole}
 use Rattle.header.specs.HeaderTest.{headerTests, headerTest, shapeOf, judged, test1, test2, test3, test4, test5, test6, test7, test8, test9, test10, test11, test12}
 use Rattle.header.specs.Answer.{done}
 use Rattle.header.specs.Open.{openOf}
-use Rattle.header.specs.Sizes.{totalSize}
 use Rattle.header.proofs.Firsts.{named}
 use Rattle.header.proofs.Fit.{judged-fit, fit-key-size, fit-shaped}
 use Rattle.image.specs.Lookup.{lookupOf, indexPart}
@@ -28,7 +27,7 @@ use Rattle.image.proofs.FullCheck.{Whole, passes-whole, whole-passes, full-chec
 use Rattle.listing.specs.Scan.{matches, list, scanOf}
 use Rattle.listing.specs.Match.{agrees, bitsCompared, matchOf}
 use Rattle.probing.proofs.Keys.{clash}
-use Rattle.writing.specs.Create.{createTests, freshFields, fresh, createOf}
+use Rattle.writing.specs.Create.{freshFields, createOf}
 use Rattle.writing.specs.State.{writingTests, cleanTest, generationTest, userTests}
 use Rattle.writing.proofs.Answers.{answers, accepted}
 use Rattle.writing.proofs.Became.{invalidated-header}
@@ -39,12 +38,13 @@ use Rattle.commit.specs.Commit.{soundTests, roomTests, furtherTests, commitTest
 use Rattle.maps.specs.Map.{Entry, Map, mapOf}
 use Rattle.maps.proofs.MapSlots.{some-iff}
 use Rattle.maps.proofs.ReadsMap.{lookup-some, lookup-none}
-use Rattle.demands.specs.History.{Word, writer}
+use Rattle.demands.specs.History.{Word, writer, freshIn}
 use Rattle.demands.specs.Demand2.{ReadsBack, NoneHolds, Demand2}
 use Rattle.demands.specs.Listings.{RightPattern, Roomy, Lists, Piece}
 use Rattle.demands.specs.Shows.{Shows}
 use Rattle.demands.proofs.Belongs.{belongs}
-use Rattle.demands.proofs.HistoryInvariant.{Held, create-none, writer-header, checkpoint-done, begin-done, held}
+use Rattle.demands.proofs.Created.{create-allowed, create-left, fresh-in}
+use Rattle.demands.proofs.HistoryInvariant.{Held, writer-header, checkpoint-done, begin-done, held}
 use Rattle.demands.proofs.Patterns.{match-list}
 use Rattle.demands.proofs.Pieces.{pieces}
 use Rattle.demands.proofs.Scanned.{few, lists-map}
@@ -152,13 +152,10 @@ module _ (o : Options) (image batch : List ℕ) where
   unfolding commitTests userTests writingTests headerTests test1 test2 test3 test4 test5 test6 test7 test8 test9 test10 test11 test12 cleanTest generationTest furtherTests soundTests roomTests
   commit-named = tt
 
-fresh-left : (o : Options) (buffer : List ℕ) → createOf o buffer .answer ≡ 0 → createOf o buffer .image ≡ fresh o ++ drop (totalSize o) buffer
-unfolding createOf
-fresh-left o buffer a = accepted buffer (fresh o ++ drop (totalSize o) buffer) (firstOf (createTests o buffer)) (create-none o buffer a)
-
-fresh-is-clean : (o : Options) (buffer : List ℕ) → Word (o .«user_version») → createOf o buffer .answer ≡ 0 → value (createOf o buffer .image) F.state ≡ CLEAN
+fresh-is-clean : (o : Options) (buffer : List ℕ) → Word (o .«user_version») → createOf o buffer .answer ≡ 0 → value (freshIn o buffer) F.state ≡ CLEAN
 unfolding freshFields
-fresh-is-clean o buffer version a = fresh-value o buffer (create-none o buffer a) version F.state tt
+fresh-is-clean o buffer version a =
+    rw (fresh-in o buffer a) (fresh-value o (create-allowed o buffer a) version F.state tt)
 
 pub demand2 : Demand2
 demand2 =
@@ -169,7 +166,7 @@ demand2 =
       passes-dirty = λ h. held h .dirty;
       passes-clean = λ h. held h .clean;
       fresh-clean = fresh-is-clean;
-      fresh-bytes = fresh-left;
+      fresh-bytes = create-left;
       bytes = commit-left;
       refusals = commit-answers;
       only-then =

@@ -3,10 +3,10 @@
 use Prim.Native.Nat.{ℕ, _≤_}
 use mathlib.Core.Path.{_≡_, refl, sym, ap, _∙_}
 use mathlib.Core.Bool.{true}
-use mathlib.Core.List.{List, _++_}
+use mathlib.Core.List.{List}
 use native.Mathlib.Omega.{arith}
 use lib.Dec.{lit≤}
-use lib.ListN.{length, take, drop}
+use lib.ListN.{length}
 use Rattle.numbers.specs.Bytes.{Bytes}
 use Rattle.header.specs.declared.options.Options.{Options}
 use Rattle.header.specs.declared.open.UserFields.{UserFields}
@@ -18,11 +18,10 @@ use Rattle.header.specs.FirstOf.{firstOf}
 use Rattle.header.specs.State.{CLEAN, DIRTY, withRole}
 use Rattle.header.specs.HeaderTest.{headerTests, headerTest, shapeOf}
 use Rattle.header.specs.Open.{userFields, noFields}
-use Rattle.header.specs.Sizes.{totalSize}
 use Rattle.header.proofs.Firsts.{first-after}
 use Rattle.header.proofs.Stages.{header-named}
 use Rattle.image.specs.Check.{passes}
-use Rattle.writing.specs.Create.{createTests, fresh, createOf}
+use Rattle.writing.specs.Create.{createOf}
 use Rattle.writing.specs.State.{inState, writingTests, beginOf, checkpointOf, setUserFieldsOf}
 use Rattle.writing.proofs.Answers as W
 use Rattle.writing.proofs.Answers.{answers}
@@ -34,7 +33,7 @@ use Rattle.writing.proofs.FreshTable.{fresh-passes}
 use Rattle.writing.proofs.Lasting.{Kept}
 use Rattle.writing.proofs.LastingTable.{same-passes}
 use Rattle.writing.proofs.StateLaws.{begin-became, checkpoint-became}
-use Rattle.writing.proofs.UserLaws.{user-became, user-set, same-user, begin-user, checkpoint-user}
+use Rattle.writing.proofs.UserLaws.{user-became, user-set, begin-user, checkpoint-user}
 use Rattle.maps.specs.Map.{Map, mapOf, applied}
 use Rattle.maps.proofs.MapFresh.{fresh-map}
 use Rattle.soundness.proofs.Accepted.{accepted-facts}
@@ -43,9 +42,8 @@ use Rattle.maps.proofs.MapLasting.{kept-map}
 use Rattle.maps.proofs.MapLaw.{commit-map}
 use Rattle.applying.specs.Apply as A
 use Rattle.commit.specs.Commit.{commitTests, commitOf}
-use Rattle.demands.specs.History.{Word, writer, Handed, emptyMap, History, created, moved, begun, checkpointed, marked, marking-refused, committed, commit-refused}
-use Rattle.demands.proofs.SameBytes.{same-fields, same-value, same-header}
-use Rattle.demands.proofs.SameReading as same-reading
+use Rattle.demands.specs.History.{Word, writer, Handed, emptyMap, freshIn, History, created, begun, checkpointed, marked, marking-refused, committed, commit-refused}
+use Rattle.demands.proofs.Created.{create-allowed, fresh-in}
 
 pub record Held (o : Options) (image : List ℕ) (m : Map) (fields : UserFields) : Type 0 where
   pub bytes : Bytes image
@@ -55,23 +53,20 @@ pub record Held (o : Options) (image : List ℕ) (m : Map) (fields : UserFields)
   pub map : mapOf (shapeOf image) image ≡ m
   pub user : userFields image ≡ fields
 
-pub create-none : (o : Options) (buffer : List ℕ) → createOf o buffer .answer ≡ 0 → firstOf (createTests o buffer) ≡ 0
-unfolding createOf
-create-none o buffer a = sym (answers buffer (fresh o ++ drop (totalSize o) buffer) (firstOf (createTests o buffer))) ∙ a
-
-pub held-created : (o : Options) (role : ℕ) (buffer : List ℕ) → Word (o .«user_version») → Bytes buffer → createOf (withRole o role) buffer .answer ≡ 0
-    → Held o (createOf (withRole o role) buffer .image) emptyMap noFields
-held-created o role buffer version bytes a =
+pub held-created : (o : Options) (role : ℕ) (buffer : List ℕ) → Word (o .«user_version») → createOf (withRole o role) buffer .answer ≡ 0
+    → Held o (freshIn (withRole o role) buffer) emptyMap noFields
+held-created o role buffer version a =
     let o′ = withRole o role in
-    let z = create-none o′ buffer a in
-    record {
-      bytes = fresh-bytes o′ buffer z version bytes;
-      dirty = λ r low other. fresh-header o′ buffer z version bytes r low;
-      clean = λ s r low. fresh-header o′ buffer z version bytes r low;
-      passed = fresh-passes o′ buffer z version;
-      map = λ i k. fresh-map o′ buffer z version bytes k i;
-      user = fresh-user o′ buffer z version;
-    }
+    let first = create-allowed o′ buffer a in
+    rw (fresh-in o′ buffer a)
+    (record {
+      bytes = fresh-bytes o′;
+      dirty = λ r low other. fresh-header o′ first version r low;
+      clean = λ s r low. fresh-header o′ first version r low;
+      passed = fresh-passes o′ first version;
+      map = λ i k. fresh-map o′ first version k i;
+      user = fresh-user o′ first version;
+    })
 
 module _ {o : Options} {image : List ℕ} {m : Map} {fields : UserFields} (held : Held o image m fields) where
   pub writer-header : headerTest (writer o) image ≡ 0
@@ -160,25 +155,8 @@ module _ {o : Options} {image : List ℕ} {m : Map} {fields : UserFields} (held 
         user = c .user ∙ held .user;
       }
 
-  -- the same bytes in another buffer
-  pub held-moved : (image′ : List ℕ) → Bytes image′ → take (totalSize o) image′ ≡ take (totalSize o) image → Held o image′ m fields
-  unfolding totalSize
-  held-moved image′ bytes same =
-      record {
-        bytes = bytes;
-        dirty = λ role low other. same-header (withRole o role) image image′ same ∙ held .dirty role low other;
-        clean = λ s role low.
-            same-header (withRole o role) image image′ same ∙ held .clean (sym (same-value o image image′ same F.state) ∙ s) role low;
-        passed = same-reading.same-passes (writer o) image image′ same writer-header ∙ held .passed;
-        map = same-reading.same-map (writer o) image image′ same writer-header ∙ held .map;
-        user =
-            let alike = same-fields o image image′ same in
-            same-user image image′ (λ i. alike i F.user-flags) (λ i. alike i F.user-data) ∙ held .user;
-      }
-
 pub held : {o : Options} {image : List ℕ} {m : Map} {fields : UserFields} → History o image m fields → Held o image m fields
-held {o} (created role buffer version bytes a) = held-created o role buffer version bytes a
-held (moved image′ bytes same h) = held-moved (held h) image′ bytes same
+held {o} (created role buffer version a) = held-created o role buffer version a
 held (begun h) = held-begun (held h)
 held (checkpointed h) = held-checkpointed (held h)
 held (marked others handed h a) = held-marked (held h) others handed a

@@ -2,14 +2,13 @@ pub mod Demand1
 pub mod Demand2
 pub mod Demand3
 pub mod Examples
-pub mod PastTotal
+pub mod ExactLength
 pub mod WholeLength
 pub mod Owing
 pub mod Calls
 pub mod Exports
 pub mod OneOutcome
-pub mod SameBytes
-pub mod SameReading
+pub mod Created
 pub mod HistoryInvariant
 pub mod Scanned
 pub mod Pieces

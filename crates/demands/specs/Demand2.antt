@@ -29,7 +29,7 @@ use Rattle.writing.specs.State.{beginOf, checkpointOf, invalidateOf}
 use Rattle.applying.specs.Apply.{committed}
 use Rattle.commit.specs.Commit.{commitTests, commitOf}
 use Rattle.maps.specs.Map.{Entry, Map}
-use Rattle.demands.specs.History.{Word, writer, History}
+use Rattle.demands.specs.History.{Word, writer, freshIn, History}
 use Rattle.demands.specs.Listings.{RightPattern, Roomy, Lists, Piece}
 use Rattle.demands.specs.Shows.{Shows}
 
@@ -74,7 +74,7 @@ pub record Demand2 : Type 0 where
   pub passes-clean : {o : Options} {image : List ℕ} {m : Map} {fields : UserFields} → History o image m fields
       → value image F.state ≡ CLEAN → (role : ℕ) → role ≤ 2 → headerTest (withRole o role) image ≡ done
   pub fresh-clean : (o : Options) (buffer : List ℕ) → Word (o .«user_version») → createOf o buffer .answer ≡ done
-      → value (createOf o buffer .image) F.state ≡ CLEAN
+      → value (freshIn o buffer) F.state ≡ CLEAN
   -- "and the bytes are those the SLC1 rules give": the definitions of create and commit say which. The next three fields are
   -- those definitions unfolded, so that the demand can be read in one place; they are no further evidence.
   pub fresh-bytes : (o : Options) (buffer : List ℕ) → createOf o buffer .answer ≡ done

@@ -35,16 +35,15 @@ pub record Handed (fields : UserFields) : Type 0 where
 abbrev pub emptyMap : Map
 emptyMap key = none
 
+-- a fresh image: what create wrote, the total's bytes of a buffer that may be longer
+abbrev pub freshIn : Options → List ℕ → List ℕ
+freshIn o buffer = take (totalSize o) (createOf o buffer .image)
+
 -- What a writer can have done under options o: the image that this leaves, and the map and the user fields that the image
 -- stands for. A call that is refused is in it too: it leaves all three.
 pub data History (o : Options) : List ℕ → Map → UserFields → Type 0 where
-  -- a fresh image, in a buffer that may be longer and hold anything
-  created : (role : ℕ) (buffer : List ℕ) → Word (o .«user_version») → Bytes buffer
-      → createOf (withRole o role) buffer .answer ≡ done
-      → History o (createOf (withRole o role) buffer .image) emptyMap noFields
-  -- the same bytes lent in another buffer, which past the total may go on differently
-  moved : {image : List ℕ} {m : Map} {fields : UserFields} (image′ : List ℕ) → Bytes image′
-      → take (totalSize o) image′ ≡ take (totalSize o) image → History o image m fields → History o image′ m fields
+  created : (role : ℕ) (buffer : List ℕ) → Word (o .«user_version») → createOf (withRole o role) buffer .answer ≡ done
+      → History o (freshIn (withRole o role) buffer) emptyMap noFields
   begun : {image : List ℕ} {m : Map} {fields : UserFields} → History o image m fields
       → History o (beginOf (writer o) image .image) m fields
   checkpointed : {image : List ℕ} {m : Map} {fields : UserFields} → History o image m fields

@@ -5,7 +5,7 @@ pub mod Examples
 pub mod History
 pub mod Listings
 pub mod Shows
-pub mod PastTotal
+pub mod ExactLength
 pub mod WholeLength
 pub mod Calls
 pub mod Exports

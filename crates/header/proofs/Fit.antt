@@ -94,7 +94,7 @@ module _ (o : Options) (image : List ℕ) (s : Shape) (fit : judged o image ≡ 
           keys = rw fit-key-size (h .key-high);
           slot = rw fit-shape (rw (says .key, says .index) (says .slot));
           offset = rw fit-shape (extent-passed image (passed .tenth) .0);
-          inside = rw fit-shape (extent-passed image (passed .tenth) .1);
+          size = rw fit-shape (extent-passed image (passed .tenth) .1);
           room = rw (fit-slot-capacity, fit-bucket-count) room;
           small = fit-small;
         };

@@ -30,17 +30,17 @@ length-passed image z =
     let short : Bool = ltb (length image) 256 in
     ltb-false (length image) 256 (fails short 0 (first-none ((eqb (length image) 0, 10) ∷ []) ((short, 1) ∷ []) tt z .1))
 
--- "An offset wrong, or the image shorter than its total size": neither
+-- "An offset wrong, or a length other than the total": neither
 pub extent-passed : (image : List ℕ) → firstOf (test10 image) ≡ 0
     → (value image F.buckets-offset ≡ bucketsOffset (value image F.slot-capacity) (value image F.slot-size))
-    × (value image F.buckets-offset + 16 * value image F.bucket-count ≤ length image)
+    × (length image ≡ value image F.buckets-offset + 16 * value image F.bucket-count)
 unfolding test10
 extent-passed image z =
     let s : Bool = eqb (value image F.slots-offset) 256 in
     let b : Bool = eqb (value image F.buckets-offset) (bucketsOffset (value image F.slot-capacity) (value image F.slot-size)) in
-    let l : Bool = ltb (length image) (value image F.buckets-offset + 16 * value image F.bucket-count) in
-    let p = neither (not (s && b)) l (fails (not (s && b) || l) 0 z) in
-    (eqb-true _ _ (and-eq-true-iff s b .0 (not-false (s && b) (p .0)) .1), ltb-false _ _ (p .1))
+    let l : Bool = eqb (length image) (value image F.buckets-offset + 16 * value image F.bucket-count) in
+    let p = neither (not (s && b)) (not l) (fails (not (s && b) || not l) 0 z) in
+    (eqb-true _ _ (and-eq-true-iff s b .0 (not-false (s && b) (p .0)) .1), eqb-true _ _ (not-false l (p .1)))
 
 -- "live_count = bucket_used, and bucket_used + bucket_tombstones <= slot_highwater <= slot_capacity"
 pub counters-passed : (image : List ℕ) → firstOf (test11 image) ≡ 0

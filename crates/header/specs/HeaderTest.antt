@@ -81,13 +81,13 @@ test9 o image =
     ∷ (not (eqb (value image F.bucket-count) (bucketCount (o .«slot_capacity»))), incompatible)
     ∷ []
 
--- "10. An offset wrong, or the image shorter than its total size: 1."
+-- "10. An offset wrong, or a length other than the total: 1." (CR 8)
 unfoldable pub test10 : List ℕ → List (Bool × ℕ)
 test10 image = (
   not
       (eqb (value image F.slots-offset) 256
       && eqb (value image F.buckets-offset) (bucketsOffset (value image F.slot-capacity) (value image F.slot-size)))
-      || ltb (length image) (value image F.buckets-offset + 16 * value image F.bucket-count),
+      || not (eqb (length image) (value image F.buckets-offset + 16 * value image F.bucket-count)),
   needs-rebuild,
 )
     ∷ []

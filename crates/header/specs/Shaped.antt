@@ -13,9 +13,9 @@ pub record LaidOut (l : Layout) (image : List ℕ) : Type 0 where
   -- keys are short, so that even their bits are few
   pub keys : l .«key_size» ≤ most-key-size
   pub slot : l .«slot_size» ≡ slotSize (l .«key_size») (l .«index_size»)
-  -- the buckets follow the slots, and the image holds both
+  -- the buckets follow the slots, and the image ends with them
   pub offset : l .«buckets_offset» ≡ bucketsOffset (l .«slot_capacity») (l .«slot_size»)
-  pub inside : l .«buckets_offset» + 16 * l .«bucket_count» ≤ length image
+  pub size : length image ≡ l .«buckets_offset» + 16 * l .«bucket_count»
   -- an EMPTY bucket is certain
   pub room : l .«slot_capacity» < l .«bucket_count»
   -- slot numbers, and sums of so many lookup counts, stay small

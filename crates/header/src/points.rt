@@ -126,7 +126,7 @@ pub fn buckets_test(image: &[u8], o: Options) -> u32
     INCOMPATIBLE
 }
 
-// 10. An offset wrong, or the image shorter than its total size: asked where the sizes and the bucket count are the rule's.
+// 10. An offset wrong, or a length other than the total: asked where the sizes and the bucket count are the rule's.
 pub fn extent_test(image: &[u8], o: Options) -> u32
     requires { ⌜ (256 ≤ length (now image)) × (sizesAllowed o ≡ true) × (firstOf (test8 o (now image)) ≡ 0) × (firstOf (test9 o (now image)) ≡ 0) ⌝ }
     ensures { λ r. ⌜ r ≡ firstOf (test10 (now (image .entry))) ⌝ }
@@ -139,7 +139,7 @@ pub fn extent_test(image: &[u8], o: Options) -> u32
         return NEEDS_REBUILD;
     }
     let total = buckets + 16 * read(image, fields::BUCKET_COUNT);
-    refuse((image.len() as u64) < total, NEEDS_REBUILD)
+    refuse(!((image.len() as u64) == total), NEEDS_REBUILD)
 }
 
 // 11. live_count = bucket_used, and bucket_used + bucket_tombstones <= slot_highwater <= slot_capacity. The sum is not formed.

@@ -35,12 +35,12 @@ module _ (l : Layout) (image : List ℕ) (fit : LaidOut l image) where
   -- a bucket ends inside the image
   pub bucket-inside : (b : ℕ) → b < l .«bucket_count» → bucketAt l b + 16 ≤ length image
   unfolding bucketAt
-  bucket-inside b h = omega (arith, fit .inside)
+  bucket-inside b h = omega (arith, fit .size)
 
   module _ (n : ℕ) (h : n < l .«slot_capacity») where
     -- a slot and each of its parts end inside the image
     pub slot-inside : slotAt l n + l .«slot_size» ≤ length image
-    slot-inside = omega (arith, slot-ends n h, fit .inside)
+    slot-inside = omega (arith, slot-ends n h, fit .size)
 
     pub index-inside : indexAt l n + l .«index_size» ≤ length image
     index-inside = omega (arith, index-in-slot n, slot-inside)

@@ -6,7 +6,6 @@ use mathlib.Core.List.{List}
 use native.Mathlib.Omega.{arith}
 use Rattle.header.specs.declared.options.Options.{Options}
 use Rattle.header.specs.declared.shape.Shape.{Shape}
-use Rattle.header.specs.Fields as F
 use Rattle.header.specs.HeaderTest.{headerTest, shapeOf}
 use Rattle.header.specs.Shaped.{Shaped}
 use Rattle.header.specs.Sizes.{bucketsOffset}

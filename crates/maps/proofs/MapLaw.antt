@@ -9,10 +9,8 @@ use mathlib.Core.Option.{Option, some, none}
 use native.Mathlib.Nat.{le-refl}
 use lib.Dec.{eqb}
 use borrow.Author.Tests.{eqb-true, eq-eqb}
-use Rattle.numbers.specs.Bytes.{word}
 use Rattle.probing.proofs.Keys.{not-both}
 use Rattle.header.specs.declared.options.Options.{Options}
-use Rattle.header.specs.declared.shape.Layout.{Layout}
 use Rattle.header.specs.declared.shape.Shape.{Shape}
 use Rattle.header.specs.Fields as F
 use Rattle.header.specs.Fields.{value}
@@ -20,7 +18,7 @@ use Rattle.header.specs.FirstOf.{firstOf}
 use Rattle.header.specs.HeaderTest.{shapeOf}
 use Rattle.image.specs.Lookup.{isLive}
 use Rattle.writing.proofs.Bytes.{Bytes}
-use Rattle.slots.proofs.Table.Around.{Around, around-bytes, around-shape}
+use Rattle.slots.proofs.Table.Around.{around-generation, around-shape}
 use Rattle.batch.specs.Batch.{recordCount, recordAt, metaIn, recordKey}
 use Rattle.batch.specs.NewKeys.{newCount, rank, newAt}
 use Rattle.header.specs.Counters.{withSlots}
@@ -87,10 +85,6 @@ module _ (s : Shape) (image batch : List ℕ) (ready : Ready s image batch) (k :
           ∙ live-unnamed s image batch (ready .fit) (ready .formed) k (λ i d. unnamed i (d .below) (d .key))
           ∙ sym (applied-unnamed s batch (mapOf s image) k unnamed)
 
-same-generation : {layout : Layout} {image image′ : List ℕ} → Around layout image image′ → value image′ F.generation ≡ value image F.generation
-unfolding value
-same-generation around = ap word (around-bytes around F.generation)
-
 -- The map after a commit, read by the new header, is the batch applied to the map before.
 pub map-law : (image batch : List ℕ) → Ready (shapeOf image) image batch → value image F.generation + 2 < 2 ^ 64 → (k : List ℕ)
     → mapOf (shapeOf (committed (shapeOf image) image batch)) (committed (shapeOf image) image batch) k
@@ -100,7 +94,7 @@ map-law image batch ready more k =
     let s = shapeOf image in
     let grown = new-grown s image batch ready (newCount (s .layout) (isLive s image) batch) (le-refl _) in
     settled-map s (s .«slot_highwater» + newCount (s .layout) (isLive s image) batch) (afterNew s image batch (newCount (s .layout) (isLive s image) batch))
-    (around-shape (grown .around)) (grown .fit) (grown .formed) (rw (same-generation (grown .around)) more) k
+    (around-shape (grown .around)) (grown .fit) (grown .formed) (rw (around-generation (grown .around)) more) k
     ∙ before-settling s image batch ready k
 
 -- A commit that no test refuses does so.

@@ -6,7 +6,6 @@ use mathlib.Core.List.{List, [], _∷_, _++_}
 use native.Mathlib.Omega.{arith}
 use lib.Dec.{lit<}
 use lib.IntN.{pos, negsuc}
-use lib.ListN.{replicate}
 use Rattle.numbers.specs.Bytes.{part, word, bytesOf, same, Bytes}
 use Rattle.numbers.specs.Signed.{signed}
 use Rattle.header.specs.declared.options.Options.{Options}
@@ -17,13 +16,15 @@ use Rattle.header.specs.HeaderTest.{layoutOf, shapeOf}
 use Rattle.header.specs.Open.{noFields, openOf}
 use Rattle.header.specs.Sizes.{align8}
 use Rattle.writing.specs.Write.{Written}
+use Rattle.writing.specs.Create.{createOf}
+use Rattle.writing.specs.State.{beginOf}
 use Rattle.writing.proofs.Bytes.{append-bytes, bytes-of-bytes}
 use Rattle.batch.specs.Batch.{recordCount, recordAt, metaIn, keyIn}
 use Rattle.commit.specs.Commit.{commitOf}
 use Rattle.maps.specs.Map.{Map, entryIn, actsOn, appliedTo, applied}
 use Rattle.demands.specs.Demand2.{ReadsBack}
-use Rattle.demands.specs.History.{writer, emptyMap, History, created, begun, checkpointed, marked, committed, commit-refused}
-use Rattle.pins.specs.Literal.{words, slot, tombstone}
+use Rattle.demands.specs.History.{Word, writer, emptyMap, freshIn, History, created, begun, checkpointed, marked, committed, commit-refused}
+use Rattle.pins.specs.Literal.{words, slot}
 use Rattle.demands.specs.Owes.{written}
 use Rattle.pins.specs.Story as S
 use Rattle.pins.specs.Story.{Story}
@@ -47,15 +48,18 @@ module _ {o : Options} where
   leaves : {m : Map} {fields : UserFields} {x y : Written} → x ≡ y → History o (x .image) m fields → History o (y .image) m fields
   leaves {m} {fields} e h = subst (λ (x : Written). History o (x .image) m fields) e h
 
+  begins : {image after : List ℕ} (buffer : List ℕ) → Word (o .«user_version») → createOf (writer o) buffer .answer ≡ done
+      → freshIn (writer o) buffer ≡ image → beginOf (writer o) image ≡ written done after → History o after emptyMap noFields
+  begins buffer version a fresh e =
+      leaves e (begun (subst (λ (i : List ℕ). History o i emptyMap noFields) fresh (created 2 buffer version a)))
+
   commits : {image after : List ℕ} {m : Map} {fields : UserFields} (batch : List ℕ) → Bytes batch
       → commitOf (writer o) image batch ≡ written done after → History o image m fields
       → History o after (applied (shapeOf image) batch m) fields
   commits batch b e h = leaves e (committed batch b h (answers e))
 
 history1 : History S.options S.image1 emptyMap noFields
-history1 =
-    let fresh = created 2 S.buffer (lit< tt) (words-bytes 8 (replicate 60 tombstone)) (answers (steps .creates)) in
-    leaves (steps .begins) (begun (leaves (steps .creates) fresh))
+history1 = begins S.buffer (lit< tt) (answers (steps .creates)) (steps .fresh) (steps .begins)
 
 history2 : History S.options S.image2 S.map2 noFields
 history2 =
@@ -108,9 +112,7 @@ story =
     }
 
 ordered1 : History O.options O.image1 emptyMap noFields
-ordered1 =
-    let fresh = created 2 O.buffer (lit< tt) (words-bytes 8 (replicate 64 tombstone)) (answers (ordered-steps .creates)) in
-    leaves (ordered-steps .begins) (begun (leaves (ordered-steps .creates) fresh))
+ordered1 = begins O.buffer (lit< tt) (answers (ordered-steps .creates)) (ordered-steps .fresh) (ordered-steps .begins)
 
 ordered2 : History O.options O.image2 O.map2 noFields
 ordered2 =

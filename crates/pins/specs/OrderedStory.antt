@@ -17,7 +17,7 @@ use Rattle.writing.specs.Create.{createOf}
 use Rattle.writing.specs.State.{beginOf, checkpointOf}
 use Rattle.commit.specs.Commit.{commitOf}
 use Rattle.maps.specs.Map.{Map, applied}
-use Rattle.demands.specs.History.{emptyMap, History}
+use Rattle.demands.specs.History.{emptyMap, freshIn, History}
 use Rattle.pins.specs.Literal.{Layout, words, zeros, header, no-user, slot, bucket, tombstone}
 use Rattle.demands.specs.Owes.{written}
 use Rattle.pins.specs.Story.{Finds, Lacks}
@@ -145,6 +145,7 @@ pub record OrderedSteps : Type 0 where
   pub home-1 : hash1 % 8 ≡ 7
   pub home-2 : hash2 % 8 ≡ 7
   pub creates : createOf options buffer ≡ written done image0
+  pub fresh : freshIn options buffer ≡ image0
   pub begins : beginOf options image0 ≡ written done image1
   -- slots in key order, 80 behind 7F; the second key goes round the end
   pub puts : commitOf options image1 batch1 ≡ written done image2

@@ -72,11 +72,13 @@ pub record HeaderRefusals : Type 0 where
   pub buckets-1 : firstOf (test9 reader (with 0x48 (1 ∷ []))) ≡ 1
   pub buckets-6 : firstOf (test9 reader (with 0x48 (6 ∷ []))) ≡ 1
   pub buckets-16 : firstOf (test9 reader (with 0x48 (16 ∷ []))) ≡ 2
-  -- "10. An offset wrong, or the image shorter than its total size: 1. A longer image is allowed"
+  -- "10. An offset wrong, or a length other than the total: 1." (CR 8)
   pub slots-offset : firstOf (test10 (with 0x60 (8 ∷ []))) ≡ 1
   pub buckets-offset : firstOf (test10 (with 0x68 (0x68 ∷ []))) ≡ 1
   pub shorter : firstOf (test10 (take 479 image6)) ≡ 1
-  pub longer : firstOf (test10 (image6 ++ 0 ∷ [])) ≡ 0
+  pub longer : firstOf (test10 (image6 ++ 0 ∷ [])) ≡ 1
+  pub half-of-another : firstOf (test10 (image6 ++ take 240 image5)) ≡ 1
+  pub exact : firstOf (test10 image6) ≡ 0
   -- "11. live_count = bucket_used, and bucket_used + bucket_tombstones <= slot_highwater <= slot_capacity, else 1."
   pub live : firstOf (test11 (with 0x30 (1 ∷ []))) ≡ 1
   pub tombstones : firstOf (test11 (with 0x58 (2 ∷ []))) ≡ 1

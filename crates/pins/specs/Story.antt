@@ -18,7 +18,7 @@ use Rattle.writing.specs.Create.{createOf}
 use Rattle.writing.specs.State.{beginOf, checkpointOf, invalidateOf, setUserFieldsOf}
 use Rattle.commit.specs.Commit.{commitOf}
 use Rattle.maps.specs.Map.{Map, applied}
-use Rattle.demands.specs.History.{emptyMap, History}
+use Rattle.demands.specs.History.{emptyMap, freshIn, History}
 use Rattle.pins.specs.Literal.{Layout, words, zeros, header, no-user, slot, bucket, tombstone}
 use Rattle.demands.specs.Owes.{written}
 use Rattle.demands.specs.Shows.{Shows}
@@ -83,9 +83,9 @@ eights =
 abbrev pub fields : UserFields
 fields = record { «user_flags» = flags; «user_data» = words 8 eights }
 
--- The images: a buffer of exactly the total, full of ones, and then what each call in turn leaves.
+-- The images: a buffer two words longer than the total, full of ones, and then what each call in turn leaves of the total's bytes.
 abbrev pub buffer : List ℕ
-buffer = words 8 (replicate 60 tombstone)
+buffer = words 8 (replicate 62 tombstone)
 
 abbrev pub image0 : List ℕ
 image0 = header layout 0 0 0 0 0x3B607E00 CLEAN no-user ++ zeros 28
@@ -134,7 +134,9 @@ pub record Steps : Type 0 where
   pub home-64 : fnv1a64 (64 ∷ []) % 8 ≡ 7
   pub home-72 : fnv1a64 (72 ∷ []) % 8 ≡ 7
   pub home-80 : fnv1a64 (80 ∷ []) % 8 ≡ 7
-  pub creates : createOf options buffer ≡ written done image0
+  -- the two words past the total stay
+  pub creates : createOf options buffer ≡ written done (image0 ++ words 8 (tombstone ∷ tombstone ∷ []))
+  pub fresh : freshIn options buffer ≡ image0
   pub begins : beginOf options image0 ≡ written done image1
   -- slots in order of the records; the second key goes round the end, into bucket 0
   pub puts : commitOf options image1 batch1 ≡ written done image2

@@ -43,7 +43,7 @@ pub record Accepted (o : Options) (image batch : List ℕ) : Type 0 where
   pub ready : Ready (shapeOf image) image batch
 
 -- test 1: "role above 2"
-role-passed : (o : Options) → firstOf (test1 o) ≡ 0 → o .role ≤ 2
+pub role-passed : (o : Options) → firstOf (test1 o) ≡ 0 → o .role ≤ 2
 unfolding test1
 role-passed o z =
     let other : Bool = not (sizesAllowed o) || ltb 1 (o .ordered) in

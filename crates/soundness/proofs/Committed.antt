@@ -9,7 +9,6 @@ use mathlib.Core.List.{List}
 use native.Mathlib.Nat.{le-refl}
 use native.Mathlib.Omega.{arith}
 use lib.ListN.{length}
-use Rattle.numbers.specs.Bytes.{part}
 use Rattle.header.specs.declared.options.Options.{Options}
 use Rattle.header.specs.declared.shape.Shape.{Shape}
 use Rattle.image.specs.Lookup.{isLive}
@@ -24,7 +23,7 @@ use Rattle.image.specs.Check.{passes}
 use Rattle.image.proofs.FullCheck.{Whole, passes-whole}
 use Rattle.writing.proofs.Bytes.{Bytes}
 use Rattle.writing.proofs.Tests.{header-holds}
-use Rattle.slots.proofs.Table.Around.{around-bytes, around-shape, SameSlot, same-slot-then}
+use Rattle.slots.proofs.Table.Around.{around-generation, around-shape, SameSlot, same-slot-then}
 use Rattle.slots.proofs.Table.Appended.{Holds, holds-then}
 use Rattle.slots.proofs.Table.Counted as write
 use Rattle.batch.specs.Batch.{recordCount, recordAt}
@@ -34,7 +33,7 @@ use Rattle.applying.specs.Apply.{afterLive, afterNew, tidied, recounted, commit
 use Rattle.commit.specs.Commit.{commitTests, commitOf}
 use Rattle.soundness.proofs.Live.{Spared, Kept, live-kept}
 use Rattle.soundness.proofs.Grown.{Grown, new-grown}
-use Rattle.soundness.proofs.Settled.{is-tidy, settled-length, settled-slot, settled-behind, settled-shape, settled-passes}
+use Rattle.soundness.proofs.Settled.{is-tidy, settled-length, settled-slot, settled-shape, settled-passes}
 use Rattle.soundness.proofs.Lent.{new-lent, tidied-lent, committed-lent}
 use Rattle.soundness.proofs.Header.{user-kept, header-passes}
 use Rattle.soundness.proofs.Accepted.{Accepted, accepted-facts}
@@ -51,7 +50,6 @@ shapeAfter image batch =
 pub record Committed (o : Options) (image batch image′ : List ℕ) : Type 0 where
   pub size : length image′ ≡ length image
   pub bytes : Bytes image′
-  pub behind : (a n : ℕ) → shapeOf image .layout .«buckets_offset» + 16 * shapeOf image .layout .«bucket_count» ≤ a → part image′ a n ≡ part image a n
   -- the header test and the full check pass, for this caller and, the header test, beside it
   pub whole : Whole o image′
   pub header : (role : ℕ) → role ≤ 2 → (role ≡ 0 → ⊥) → headerTest (withRole o role) image′ ≡ 0
@@ -105,8 +103,7 @@ module _ (o : Options) (image batch : List ℕ) (lent : Bytes image) (lent-batch
   user′ = user-kept o image (header-holds o image (facts .header)) n grown (has-grown .around) head (has-grown .fit) (has-grown .formed)
 
   more : value grown F.generation + 2 < 2 ^ 64
-  unfolding value
-  more = rw (around-bytes (has-grown .around) F.generation) (facts .more)
+  more = rw (around-generation (has-grown .around)) (facts .more)
 
   passes′ : passes (shapeOf image′) image′ ≡ true
   unfolding committed
@@ -131,14 +128,13 @@ module _ (o : Options) (image batch : List ℕ) (lent : Bytes image) (lent-batch
   new′ : (q : ℕ) → q < count → Holds (s .layout) image′ (s .«slot_highwater» + q) (recordAt (s .layout) batch (newAt (s .layout) (isLive s image) batch q))
   new′ q l = holds-then (has-grown .new q l) (slot′ (s .«slot_highwater» + q) (omega (arith, facts .ready .room)))
 
-  pub committed-image : Committed o image batch image′
+  committed-image : Committed o image batch image′
   unfolding committed
   committed-image =
       let whole = header′ (o .role) (facts .role .0) (facts .role .1) in
       record {
         size = settled-length s n grown head (has-grown .fit) (has-grown .formed) ∙ has-grown .around .size;
         bytes = committed-lent s image batch lent lent-batch;
-        behind = λ a k l. settled-behind s n grown head (has-grown .fit) (has-grown .formed) a k l ∙ has-grown .around .behind a k l;
         whole = passes-whole o image′ whole passes′;
         header = header′;
         passes = passes′;

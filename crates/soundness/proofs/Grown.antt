@@ -56,7 +56,7 @@ pub record Ready (s : Shape) (image batch : List ℕ) : Type 0 where
 
 -- What the new keys of ranks below r leave, by slots given out.
 pub record Grown (s : Shape) (image batch : List ℕ) (r : ℕ) (image′ : List ℕ) : Type 0 where
-  pub around : Around (s .layout) image image′
+  pub around : Around image image′
   pub fit : Shaped (withSlots s (s .«slot_highwater» + r)) image′
   pub formed : Formed (s .layout .ordered) (tableOf (withSlots s (s .«slot_highwater» + r)) image′)
   -- old slots are as the records left them
@@ -190,7 +190,7 @@ module _ (s : Shape) (image batch : List ℕ) (ready : Ready s image batch) wher
     unfolding withSlots withCounters
     grown-new = appended-new t before (so .fit) room bytes size
 
-    grown-around : Around (s .layout) before after
+    grown-around : Around before after
     unfolding withSlots withCounters
     grown-around = appended-around t before (so .fit) room bytes size
 

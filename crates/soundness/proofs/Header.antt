@@ -33,7 +33,7 @@ use Rattle.soundness.proofs.Formed.{Formed}
 use Rattle.soundness.proofs.Settled.{is-tidy, recounted-fit, settled-length}
 
 -- The image began as another, whose header it still has, and n slots are given out.
-module _ (o : Options) (start : List ℕ) (holds : Holds o start) (n : ℕ) (image : List ℕ) (around : Around (shapeOf start .layout) start image)
+module _ (o : Options) (start : List ℕ) (holds : Holds o start) (n : ℕ) (image : List ℕ) (around : Around start image)
     (head : shapeOf image ≡ shapeOf start) (fit : Shaped (withSlots (shapeOf start) n) image)
     (formed : Formed (shapeOf start .layout .ordered) (tableOf (withSlots (shapeOf start) n) image)) where
   abbrev s : Shape

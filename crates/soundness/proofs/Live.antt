@@ -44,7 +44,7 @@ Spared s batch i k = (j : ℕ) → j < i → Deletes s batch k j → ⊥
 
 -- What the records below i leave.
 pub record Kept (s : Shape) (image batch : List ℕ) (i : ℕ) (image′ : List ℕ) : Type 0 where
-  pub around : Around (s .layout) image image′
+  pub around : Around image image′
   pub fit : Shaped s image′
   pub formed : Formed (s .layout .ordered) (tableOf s image′)
   pub keys : (n : ℕ) → n < s .layout .«slot_capacity» → keyOf (s .layout) image′ n ≡ keyOf (s .layout) image n
@@ -66,7 +66,7 @@ module _ (s : Shape) (image batch : List ℕ) (i : ℕ) (before : List ℕ) (kep
   highwater-inside n l = omega (arith, kept .fit .highwater)
 
   -- a record that deletes no live key leaves the image, or one with the same live slots and keys
-  stays : (after : List ℕ) → Around (s .layout) before after → Formed (s .layout .ordered) (tableOf s after)
+  stays : (after : List ℕ) → Around before after → Formed (s .layout .ordered) (tableOf s after)
       → ((n : ℕ) → metaOf (s .layout) after n ≡ metaOf (s .layout) before n) → ((n : ℕ) → keyOf (s .layout) after n ≡ keyOf (s .layout) before n)
       → ((n : ℕ) → n < s .«slot_highwater» → metaOf (s .layout) before n ≡ 1 → keyOf (s .layout) before n ≡ key → Deletes s batch key i → ⊥)
       → Kept s image batch (suc i) after

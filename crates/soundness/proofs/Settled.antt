@@ -8,10 +8,8 @@ use native.Mathlib.Omega.{arith}
 use lib.Dec.{ltb}
 use lib.ListN.{length}
 use borrow.Author.Tests.{ltb-false}
-use Rattle.numbers.specs.Bytes.{part, word}
 use Rattle.probing.specs.Table.{Table, liveCount, tombstoneCount}
 use Rattle.probing.specs.Check.{checks}
-use Rattle.probing.specs.Change as change
 use Rattle.probing.specs.Clip.{clip}
 use Rattle.probing.proofs.Clip.{tombstoneCount-clip}
 use Rattle.header.specs.declared.shape.Shape.{Shape}
@@ -19,11 +17,10 @@ use Rattle.header.specs.Fields as F
 use Rattle.header.specs.Fields.{value}
 use Rattle.header.specs.HeaderTest.{shapeOf}
 use Rattle.header.specs.Shaped.{Shaped}
-use Rattle.header.specs.Sizes.{bucketsOffset}
 use Rattle.image.specs.Table.{tableOf}
 use Rattle.image.specs.Check.{passes}
 use Rattle.slots.specs.Slots.{rebuilt}
-use Rattle.slots.proofs.Table.Around.{Around, around-self, around-bytes, around-shape, around-shaped, SameSlot, same-slot-self, same-slot-then}
+use Rattle.slots.proofs.Table.Around.{Around, around-self, around-generation, around-shape, around-shaped, SameSlot, same-slot-self, same-slot-then}
 use Rattle.slots.proofs.Table.Rebuilt.{rebuilt-around, rebuilt-slot, rebuilt-table}
 use Rattle.slots.proofs.Table.Counted as write
 use Rattle.header.specs.Counters.{withCounters, withSlots}
@@ -32,7 +29,7 @@ use Rattle.soundness.proofs.Formed.{Formed, formed-clip, clip-formed, r
 
 -- What is left after "if 4 x tombstones > B, the index is rebuilt".
 pub record Tidy (s : Shape) (image image′ : List ℕ) : Type 0 where
-  pub around : Around (s .layout) image image′
+  pub around : Around image image′
   pub fit : Shaped s image′
   pub slots : (n : ℕ) → n < s .layout .«slot_capacity» → SameSlot (s .layout) image image′ n
   pub formed : Formed (s .layout .ordered) (tableOf s image′)
@@ -113,19 +110,10 @@ module _ (s : Shape) (n : ℕ) (image : List ℕ) (head : shapeOf image ≡ s) (
   unfolding settled
   settled-length = write.counted-length new tidy recounted-fit ∙ is-tidy .around .size
 
-  -- the slots stay, and so does what lies behind the buckets
+  -- the slots stay
   pub settled-slot : (m : ℕ) → m < s .layout .«slot_capacity» → SameSlot (s .layout) image after m
   unfolding settled recounted withSlots withCounters
   settled-slot m l = same-slot-then (is-tidy .slots m l) (write.counted-slot new tidy recounted-fit m)
-
-  pub settled-behind : (a k : ℕ) → s .layout .«buckets_offset» + 16 * s .layout .«bucket_count» ≤ a → part after a k ≡ part image a k
-  unfolding settled withSlots withCounters bucketsOffset
-  settled-behind a k l =
-      write.counted-behind new tidy recounted-fit a k (omega (arith, fit .laid .offset)) ∙ is-tidy .around .behind a k l
-
-  same-generation : value tidy F.generation ≡ value image F.generation
-  unfolding value
-  same-generation = ap word (around-bytes (is-tidy .around) F.generation)
 
   -- the table stays
   settled-table : tableOf new after ≡ table
@@ -136,7 +124,7 @@ module _ (s : Shape) (n : ℕ) (image : List ℕ) (head : shapeOf image ≡ s) (
     pub settled-shape : shapeOf after ≡ write.countedShape s new
     unfolding settled
     settled-shape =
-        write.counted-shape new tidy recounted-fit (rw same-generation more)
+        write.counted-shape new tidy recounted-fit (rw (around-generation (is-tidy .around)) more)
         ∙ ap (λ (t : Shape). write.countedShape t new) (around-shape (is-tidy .around) ∙ head)
 
     -- the full check passes

@@ -3,7 +3,6 @@
 use Prim.Native.Nat.{ℕ, _+_, _*_, _≤_, _<_}
 use mathlib.Core.Bool.{Bool, true, false, not, _||_}
 use mathlib.Core.Path.{_≡_, refl}
-use mathlib.Core.List.{List}
 use native.Mathlib.Omega.{arith}
 use lib.Dec.{T, eqb}
 use Rattle.probing.specs.Counting.{sumTo, countTo, allTo}
@@ -16,11 +15,11 @@ use Rattle.header.specs.Fields as F
 use Rattle.header.specs.Fields.{value}
 use Rattle.header.specs.FirstOf.{firstOf}
 use Rattle.header.specs.State.{CLEAN}
-use Rattle.header.specs.HeaderTest.{layoutOf, shapeOf}
+use Rattle.header.specs.HeaderTest.{test1, layoutOf, shapeOf}
 use Rattle.header.specs.Sizes.{slotSize, bucketCount, bucketsOffset}
 use Rattle.image.specs.Check.{passes}
 use Rattle.image.specs.Table.{bucketAt, bucketFrom, bucketOf, tableOf}
-use Rattle.writing.specs.Create.{createTests, freshFields, createOf}
+use Rattle.writing.specs.Create.{freshFields, fresh}
 use Rattle.writing.proofs.OneField.{Fits, apart}
 use Rattle.writing.proofs.FieldList.{after}
 use Rattle.writing.proofs.Zeros.{word-zeros}
@@ -65,21 +64,21 @@ empty-checks t ordered h e =
     let tombstones : countTo (t .B) (λ b. isTombstone (t .bucket b)) ≡ 0 = count-none (t .B) {p = λ b. isTombstone (t .bucket b)} (λ b l. rw (e b l) refl) in
     rw (right, full, tombstones, h) (or-true ordered)
 
-module _ (o : Options) (buffer : List ℕ) (z : firstOf (createTests o buffer) ≡ 0) (version : Fits F.user-version (o .«user_version»)) where
-  v : (m : ℕ) → T (apart m F.header-crc32c) → value (createOf o buffer .image) m ≡ after (freshFields o) m 0
-  v = fresh-value o buffer z version
+module _ (o : Options) (first : firstOf (test1 o) ≡ 0) (version : Fits F.user-version (o .«user_version»)) where
+  v : (m : ℕ) → T (apart m F.header-crc32c) → value (fresh o) m ≡ after (freshFields o) m 0
+  v = fresh-value o first version
 
-  pub fresh-shape : shapeOf (createOf o buffer .image) ≡ freshShape o
+  pub fresh-shape : shapeOf (fresh o) ≡ freshShape o
   unfolding shapeOf layoutOf freshFields
   fresh-shape =
       rw (v F.key-size tt, v F.index-size tt, v F.slot-size tt, v F.slot-capacity tt, v F.slot-highwater tt, v F.live-count tt, v F.bucket-count tt, v F.bucket-tombstones tt, v F.buckets-offset tt, v F.flags tt, v F.state tt, v F.generation tt) refl
 
-  pub fresh-bucket : (b : ℕ) → b < bucketCount (o .«slot_capacity») → bucketOf (freshShape o .layout) (createOf o buffer .image) b ≡ EMPTY
+  pub fresh-bucket : (b : ℕ) → b < bucketCount (o .«slot_capacity») → bucketOf (freshShape o .layout) (fresh o) b ≡ EMPTY
   unfolding bucketOf bucketAt bucketFrom
   fresh-bucket b h =
       let at : ℕ = bucketsOffset (o .«slot_capacity») (slotSize (o .«key_size») (o .«index_size»)) + 16 * b + 8 in
-      rw (fresh-behind o buffer z version at 8 (omega (arith, buckets-low o)) (omega (arith, extent o)), word-zeros 8) refl
+      rw (fresh-behind o at 8 (omega (arith, buckets-low o)) (omega (arith, extent o)), word-zeros 8) refl
 
-  pub fresh-passes : passes (shapeOf (createOf o buffer .image)) (createOf o buffer .image) ≡ true
+  pub fresh-passes : passes (shapeOf (fresh o)) (fresh o) ≡ true
   unfolding passes tableOf
-  fresh-passes = rw fresh-shape (empty-checks (tableOf (freshShape o) (createOf o buffer .image)) (eqb (o .ordered) 1) refl fresh-bucket)
+  fresh-passes = rw fresh-shape (empty-checks (tableOf (freshShape o) (fresh o)) (eqb (o .ordered) 1) refl fresh-bucket)

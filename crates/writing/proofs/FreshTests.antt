@@ -35,7 +35,7 @@ pub extent : (o : Options) → bucketsOffset (o .«slot_capacity») (slotSize (o
 unfolding bucketsOffset totalSize
 extent o = refl
 
-module _ (o : Options) (image : List ℕ) (first : firstOf (test1 o) ≡ 0) (v : (m : ℕ) → T (apart m F.header-crc32c) → value image m ≡ after (freshFields o) m 0) (long : totalSize o ≤ length image) where
+module _ (o : Options) (image : List ℕ) (first : firstOf (test1 o) ≡ 0) (v : (m : ℕ) → T (apart m F.header-crc32c) → value image m ≡ after (freshFields o) m 0) (size : length image ≡ totalSize o) where
   second : firstOf (test2 image) ≡ 0
   unfolding test2 firstOf
   second =
@@ -72,7 +72,7 @@ module _ (o : Options) (image : List ℕ) (first : firstOf (test1 o) ≡ 0) (v :
 
   tenth : firstOf (test10 image) ≡ 0
   unfolding test10 firstOf freshFields
-  tenth = rw (v F.slots-offset tt, v F.buckets-offset tt, v F.slot-capacity tt, v F.slot-size tt, v F.bucket-count tt, eq-eqb (offset o) (offset o) refl, extent o, le-ltb (length image) (totalSize o) long) refl
+  tenth = rw (v F.slots-offset tt, v F.buckets-offset tt, v F.slot-capacity tt, v F.slot-size tt, v F.bucket-count tt, eq-eqb (offset o) (offset o) refl, extent o, eq-eqb (length image) (totalSize o) size) refl
 
   eleventh : firstOf (test11 image) ≡ 0
   unfolding test11 firstOf freshFields

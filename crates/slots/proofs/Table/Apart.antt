@@ -41,9 +41,9 @@ module _ (layout : Layout) (image : List ℕ) (fit : LaidOut layout image) (at :
     in-slots = omega (arith, slot-ends layout image fit n inside)
 
     pub fits-slots : at + length bs ≤ length image
-    fits-slots = omega (arith, in-slots, fit .inside)
+    fits-slots = omega (arith, in-slots, fit .size)
 
-    pub slot-put-around : Around layout image (put image at bs)
+    pub slot-put-around : Around image (put image at bs)
     unfolding slotAt
     slot-put-around = put-around layout image fit at bs (omega arith) (omega (arith, in-slots))
 
@@ -62,9 +62,9 @@ module _ (layout : Layout) (image : List ℕ) (fit : LaidOut layout image) (at :
     in-buckets = omega arith
 
     fits-buckets : at + length bs ≤ length image
-    fits-buckets = omega (arith, in-buckets .1, fit .inside)
+    fits-buckets = omega (arith, in-buckets .1, fit .size)
 
-    pub bucket-put-around : Around layout image (put image at bs)
+    pub bucket-put-around : Around image (put image at bs)
     unfolding bucketsOffset
     bucket-put-around = put-around layout image fit at bs (omega (arith, in-buckets .0, fit .offset)) (in-buckets .1)
 

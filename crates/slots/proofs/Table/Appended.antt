@@ -67,7 +67,7 @@ module _ (s : Shape) (image : List ℕ) (fit : Shaped s image) (room : s .«slot
   high : slotAt (s .layout) n + length bytes ≤ slotAt (s .layout) n + s .layout .«slot_size»
   high = omega arith
 
-  mid-around : Around (s .layout) image mid
+  mid-around : Around image mid
   mid-around = slot-put-around (s .layout) image (fit .laid) (slotAt (s .layout) n) bytes n room (omega arith) high
 
   mid-fit : Shaped s mid
@@ -77,7 +77,7 @@ module _ (s : Shape) (image : List ℕ) (fit : Shaped s image) (room : s .«slot
   written j m l =
       part-put-in image (slotAt (s .layout) n) bytes (fits-slots (s .layout) image (fit .laid) (slotAt (s .layout) n) bytes n room (omega arith) high) j m (omega arith)
 
-  pub appended-around : Around (s .layout) image (appended s image bytes)
+  pub appended-around : Around image (appended s image bytes)
   unfolding appended
   appended-around = around-then mid-around (indexed-around s mid mid-fit n room)
 

@@ -82,56 +82,50 @@ module _ (layout : Layout) (image image′ : List ℕ) where
       ap₂ (λ (x y : List ℕ). bucketFrom (word x) (word y))
       (h .parts (bucketAt layout b) 8 (omega arith) (omega arith)) (h .parts (bucketAt layout b + 8) 8 (omega arith) (omega arith))
 
--- Outside the slots and buckets all bytes are as they were.
-pub record Around (layout : Layout) (image image′ : List ℕ) : Type 0 where
+-- Around the slots and buckets all is as it was: the header before them, and that the image ends with them.
+pub record Around (image image′ : List ℕ) : Type 0 where
   pub size : length image′ ≡ length image
   pub header : (a n : ℕ) → a + n ≤ 256 → part image′ a n ≡ part image a n
-  pub behind : (a n : ℕ) → layout .«buckets_offset» + 16 * layout .«bucket_count» ≤ a → part image′ a n ≡ part image a n
 
-pub around-self : {layout : Layout} {image : List ℕ} → Around layout image image
-around-self = record { size = refl; header = λ a n l. refl; behind = λ a n l. refl }
+pub around-self : {image : List ℕ} → Around image image
+around-self = record { size = refl; header = λ a n l. refl }
 
-pub around-then : {layout : Layout} {image image′ image″ : List ℕ} → Around layout image image′ → Around layout image′ image″ → Around layout image image″
-around-then p q =
-    record {
-      size = q .size ∙ p .size;
-      header = λ a n l. q .header a n l ∙ p .header a n l;
-      behind = λ a n l. q .behind a n l ∙ p .behind a n l;
-    }
+pub around-then : {image image′ image″ : List ℕ} → Around image image′ → Around image′ image″ → Around image image″
+around-then p q = record { size = q .size ∙ p .size; header = λ a n l. q .header a n l ∙ p .header a n l }
 
 -- so is every field of the header, and what the header says
-pub around-bytes : {layout : Layout} {image image′ : List ℕ} → Around layout image image′ → (name : ℕ) → bytesIn image′ name ≡ bytesIn image name
+pub around-bytes : {image image′ : List ℕ} → Around image image′ → (name : ℕ) → bytesIn image′ name ≡ bytesIn image name
 unfolding bytesIn
 around-bytes k name = k .header (fieldOf name .offset) (fieldOf name .width) (in-header name)
 
-pub around-shape : {layout : Layout} {image image′ : List ℕ} → Around layout image image′ → shapeOf image′ ≡ shapeOf image
+pub around-generation : {image image′ : List ℕ} → Around image image′ → value image′ F.generation ≡ value image F.generation
+unfolding value
+around-generation k = ap word (around-bytes k F.generation)
+
+pub around-shape : {image image′ : List ℕ} → Around image image′ → shapeOf image′ ≡ shapeOf image
 unfolding shapeOf layoutOf value
 around-shape k =
     let b = around-bytes k in
     rw (b F.key-size, b F.index-size, b F.slot-size, b F.slot-capacity, b F.slot-highwater, b F.live-count, b F.bucket-count, b F.bucket-tombstones, b F.buckets-offset, b F.flags, b F.state, b F.generation) refl
 
 -- the layout is still that of the image, and so is the shape
-pub around-laid : {layout : Layout} {image image′ : List ℕ} → Around layout image image′ → LaidOut layout image → LaidOut layout image′
+pub around-laid : {layout : Layout} {image image′ : List ℕ} → Around image image′ → LaidOut layout image → LaidOut layout image′
 around-laid k fit =
     record {
       keys = fit .keys;
       slot = fit .slot;
       offset = fit .offset;
-      inside = omega (arith, fit .inside, k .size);
+      size = omega (arith, fit .size, k .size);
       room = fit .room;
       small = fit .small;
     }
 
-pub around-shaped : {s : Shape} {image image′ : List ℕ} → Around (s .layout) image image′ → Shaped s image → Shaped s image′
+pub around-shaped : {s : Shape} {image image′ : List ℕ} → Around image image′ → Shaped s image → Shaped s image′
 around-shaped k fit = record { laid = around-laid k (fit .laid); counters = fit .counters; highwater = fit .highwater }
 
 module _ (layout : Layout) (image : List ℕ) (fit : LaidOut layout image) (at : ℕ) (bs : List ℕ) where
   -- a put into the slots and buckets
-  pub put-around : 256 ≤ at → at + length bs ≤ layout .«buckets_offset» + 16 * layout .«bucket_count» → Around layout image (put image at bs)
+  pub put-around : 256 ≤ at → at + length bs ≤ layout .«buckets_offset» + 16 * layout .«bucket_count» → Around image (put image at bs)
   put-around low high =
-      let fits : at + length bs ≤ length image = omega (arith, fit .inside) in
-      record {
-        size = length-put image at bs fits;
-        header = λ a n l. part-put-before image at bs fits a n (omega arith);
-        behind = λ a n l. part-put-after image at bs fits a n (omega arith);
-      }
+      let fits : at + length bs ≤ length image = omega (arith, fit .size) in
+      record { size = length-put image at bs fits; header = λ a n l. part-put-before image at bs fits a n (omega arith) }

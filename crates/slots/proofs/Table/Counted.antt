@@ -54,7 +54,7 @@ module _ (s : Shape) (image : List ℕ) (fit : Shaped s image) where
   buckets-behind = omega (arith, fit .laid .offset)
 
   pub long : 256 ≤ length image
-  long = omega (arith, buckets-behind, fit .laid .inside)
+  long = omega (arith, buckets-behind, fit .laid .size)
 
   size : length (withFields image counters) ≡ length image
   size = fields-length counters image long

@@ -46,7 +46,7 @@ module _ (s : Shape) (image : List ℕ) (fit : Shaped s image) (n : ℕ) (inside
   high : bucketAt (s .layout) bucket + length entry ≤ bucketAt (s .layout) bucket + 16
   high = omega (arith, entry-length)
 
-  pub indexed-around : Around (s .layout) image (indexed s image n)
+  pub indexed-around : Around image (indexed s image n)
   unfolding indexed
   indexed-around = bucket-put-around (s .layout) image (fit .laid) (bucketAt (s .layout) bucket) entry bucket bucket-below (omega arith) high
 

@@ -28,7 +28,7 @@ use Rattle.slots.proofs.Table.Indexed.{indexed-around, indexed-slot, in
 
 -- The index holds the live slots below n, and all else is as it was.
 pub record Built (s : Shape) (image : List ℕ) (n : ℕ) (image′ : List ℕ) : Type 0 where
-  pub around : Around (s .layout) image image′
+  pub around : Around image image′
   pub slots : (m : ℕ) → m < s .layout .«slot_capacity» → SameSlot (s .layout) image image′ m
   pub table : clip (tableOf s image′) ≡ change.rebuiltTo (clip (tableOf s image)) n
 
@@ -41,7 +41,7 @@ module _ (s : Shape) (image : List ℕ) (fit : Shaped s image) where
   empty = put image (s .layout .«buckets_offset») zeros
 
   fits : s .layout .«buckets_offset» + length zeros ≤ length image
-  fits = omega (arith, fit .laid .inside, length-replicate {A = ℕ} (16 * s .layout .«bucket_count») 0)
+  fits = omega (arith, fit .laid .size, length-replicate {A = ℕ} (16 * s .layout .«bucket_count») 0)
 
   word-zero : (j : ℕ) → j + 8 ≤ 16 * s .layout .«bucket_count» → word (part empty (s .layout .«buckets_offset» + j) 8) ≡ 0
   word-zero j l =
@@ -106,7 +106,7 @@ module _ (s : Shape) (image : List ℕ) (fit : Shaped s image) where
       let meta = built n (omega arith) .slots n (omega (arith, fit .highwater)) .meta in
       rw (add-one, e) (ap (λ (m : ℕ). cond (eqb m 1) (indexed s (rebuiltTo s image n) n) (rebuiltTo s image n)) meta)
 
-  pub rebuilt-around : Around (s .layout) image (rebuilt s image)
+  pub rebuilt-around : Around image (rebuilt s image)
   unfolding rebuilt
   rebuilt-around = built (s .«slot_highwater») (le-refl _) .around
 

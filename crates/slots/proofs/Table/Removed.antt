@@ -44,7 +44,7 @@ module _ (s : Shape) (image : List ℕ) (fit : Shaped s image) (n b : ℕ) (insi
   unfolding indexAt
   high = omega (arith, length-bytes 8 0, index-in-slot (s .layout) image (fit .laid) n)
 
-  mid-around : Around (s .layout) image mid
+  mid-around : Around image mid
   mid-around = slot-put-around (s .layout) image (fit .laid) (slotAt (s .layout) n) (bytesOf 8 0) n inside (omega arith) high
 
   mid-other : (m : ℕ) → (m ≡ n → ⊥) → SameSlot (s .layout) image mid m
@@ -56,7 +56,7 @@ module _ (s : Shape) (image : List ℕ) (fit : Shaped s image) (n b : ℕ) (insi
   high′ : bucketAt (s .layout) b + 8 + length (bytesOf 8 all-ones) ≤ bucketAt (s .layout) b + 16
   high′ = omega (arith, length-bytes 8 all-ones)
 
-  pub removed-around : Around (s .layout) image (removed (s .layout) image n b)
+  pub removed-around : Around image (removed (s .layout) image n b)
   unfolding removed
   removed-around =
       around-then mid-around

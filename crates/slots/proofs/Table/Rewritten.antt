@@ -48,7 +48,7 @@ module _ (s : Shape) (image : List ℕ) (fit : Shaped s image) (n : ℕ) (inside
   fits : revisionAt (s .layout) n + length (tail s bytes) ≤ length image
   fits = fits-slots (s .layout) image (fit .laid) (revisionAt (s .layout) n) (tail s bytes) n inside low high
 
-  pub rewritten-around : Around (s .layout) image (rewritten (s .layout) image n bytes)
+  pub rewritten-around : Around image (rewritten (s .layout) image n bytes)
   unfolding rewritten
   rewritten-around = slot-put-around (s .layout) image (fit .laid) (revisionAt (s .layout) n) (tail s bytes) n inside low high
 

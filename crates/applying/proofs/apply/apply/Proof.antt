@@ -6,12 +6,12 @@ use mathlib.Core.List.{List}
 use native.Mathlib.Omega.{arith}
 use Rattle.header.specs.declared.shape.Shape.{Shape}
 use Rattle.header.specs.Shaped.{Shaped}
-use Rattle.slots.proofs.Table.Around.{Around, around-then, around-shaped}
+use Rattle.slots.proofs.Table.Around.{Around, around-then, around-generation, around-shaped}
 use Rattle.batch.specs.Batch.{recordCount}
 use Rattle.batch.specs.Marks.{isMarked}
 use Rattle.applying.specs.Apply.{actedTo}
 use Rattle.applying.specs.Prepared.{appendedTo}
-use Rattle.applying.proofs.StepsKeepHeader.{around-generation, slots-shaped, live-all-kept, new-all-kept}
+use Rattle.applying.proofs.StepsKeepHeader.{slots-shaped, live-all-kept, new-all-kept}
 use Rattle.applying.proofs.Applied.{new-count-bound, marked-below, applied}
 use borrow.Author.Needs.{needs}
 use Rattle.applying.proofs.apply.apply.Statement.{statement}
@@ -20,13 +20,13 @@ use Rattle.applying.proofs.apply.apply.Tie as tie
 -- what is kept when all records have acted and all new keys are appended
 kept-all : (b : tie.Start) (one : List ℕ) → one ≡ actedTo (b .args .s) (isMarked (b .args .marks .now)) (b .args .image .now) (b .args .batch .now) (recordCount (b .args .s .layout) (b .args .batch .now))
     → (two : List ℕ) → two ≡ appendedTo (b .args .s) (b .args .batch .now) (b .args .marks .now) one (b .args .count)
-    → Around (b .args .s .layout) (b .args .image .now) two
+    → Around (b .args .image .now) two
 kept-all b one e two d =
     let a = b .args in
     let n = recordCount (a .s .layout) (a .batch .now) in
     let ready = b .pre .1 .1 in
-    let first : Around (a .s .layout) (a .image .now) one = rw e (live-all-kept (a .s) (a .image .now) (b .pre .0) (a .batch .now) (isMarked (a .marks .now)) n (omega arith)) in
-    let second : Around (a .s .layout) one two =
+    let first : Around (a .image .now) one = rw e (live-all-kept (a .s) (a .image .now) (b .pre .0) (a .batch .now) (isMarked (a .marks .now)) n (omega arith)) in
+    let second : Around one two =
     rw d
     (new-all-kept (a .s) one (around-shaped first (b .pre .0)) (a .batch .now) (a .marks .now) (a .count) (ready .room)
     (λ k l. marked-below (a .s) (a .image .now) (a .batch .now) (a .marks .now) (ready .marked) k (omega (arith, ready .counted))) (a .count) (omega arith)) in
