@@ -106,8 +106,17 @@ static void require_done(uint32_t answer, const char *path)
         exit(answered(answer, path));
 }
 
-static void warn_of_checksum(const struct store_image *image, const char *path)
+/* What is wrong with a file, beside what its answer says: its length, where it needs a rebuild, and its checksum. */
+static void warn_of(const struct store_image *image, const char *path)
 {
+    uint64_t size = slc1_total_size(SLC1_OPTIONS(&image->options));
+    bool damaged = slc1_open_check(STORE_LENT(image)) == SLC1_NEEDS_REBUILD;
+
+    if (damaged && store_length(image) > 0)
+        fprintf(stderr, "bench: %s is longer than the %" PRIu64 " bytes of its image: something else stands behind it\n", path,
+                size);
+    if (damaged && store_length(image) < 0)
+        fprintf(stderr, "bench: %s is shorter than the %" PRIu64 " bytes of its image: its end is missing\n", path, size);
     if (image->checksum == STORE_NO_MARK)
         fprintf(stderr, "bench: %s has no checksum, a changed gain would not be noticed: load or rebuild adds one\n", path);
     if (image->checksum == STORE_WRONG)
@@ -188,7 +197,7 @@ static uint32_t read_cache(struct store_reader *reader, const char *path, int fl
     answer = store_read(reader);
     if (answer >= STORE_FAILED)
         exit(answered(answer, path));
-    warn_of_checksum(&reader->image, path);
+    warn_of(&reader->image, path);
     return answer;
 }
 
@@ -420,7 +429,7 @@ static void show_progress(size_t done, size_t all)
 static void open_cache(struct store_writer *writer, const char *path)
 {
     require_done(store_open_writer(writer, path, &OPTIONS), path);
-    warn_of_checksum(&writer->image, path);
+    warn_of(&writer->image, path);
 }
 
 /* The certificates of a file, and the lock of a cache. */

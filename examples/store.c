@@ -45,15 +45,26 @@ static size_t size_of(const struct store_image *image)
     return (size_t)slc1_total_size(SLC1_OPTIONS(&image->options));
 }
 
-/* Room for a whole image, of length 0 until it is filled: the pointer that is lent is never NULL. */
+/* The room for a copy: a byte more than an image has, so that a longer file is seen to be one. */
+static size_t room_of(const struct store_image *image)
+{
+    return size_of(image) + 1;
+}
+
+/* Room for a copy, of length 0 until it is filled: the pointer that is lent is never NULL. */
 static uint32_t new_image(struct store_image *image, const slc1_options *options)
 {
     *image = (struct store_image){NULL, 0, *options, STORE_UNCHECKED};
     image->options.role = SLC1_NO_WRITER_KNOWN;
     if (size_of(image) == 0)
         return SLC1_INVALID_INPUT;
-    image->bytes = calloc(1, size_of(image));
+    image->bytes = calloc(1, room_of(image));
     return image->bytes == NULL ? STORE_FAILED : SLC1_DONE;
+}
+
+int store_length(const struct store_image *image)
+{
+    return (image->length > size_of(image)) - (image->length < size_of(image));
 }
 
 /* The same bytes under another role. */
@@ -205,7 +216,7 @@ static uint32_t copy_file(struct store_image *image, int file)
 
     first = read_at(file, before, WORD, SLC1_GENERATION_AT);
     atomic_thread_fence(memory_order_seq_cst);
-    length = read_at(file, image->bytes, size_of(image), 0);
+    length = read_at(file, image->bytes, room_of(image), 0);
     atomic_thread_fence(memory_order_seq_cst);
     last = read_at(file, after, WORD, SLC1_GENERATION_AT);
     if (first < 0 || length < 0 || last < 0)
@@ -216,7 +227,7 @@ static uint32_t copy_file(struct store_image *image, int file)
     return SLC1_DONE;
 }
 
-/* Whether the copy is CLEAN, with no wrong checksum, and the file that was copied, with the same header. */
+/* Whether the copy is CLEAN, with no wrong checksum, and the file that was copied, with the same length and header. */
 static bool is_up_to_date(const struct store_reader *reader, int file)
 {
     struct store_image alone = under(&reader->image, SLC1_NO_WRITER_KNOWN);
@@ -225,7 +236,7 @@ static bool is_up_to_date(const struct store_reader *reader, int file)
 
     return reader->file >= 0 && reader->image.checksum != STORE_WRONG &&
            slc1_open_check(STORE_LENT(&alone)) == SLC1_DONE && fstat(reader->file, &copied) == 0 &&
-           fstat(file, &named) == 0 && is_same_file(&copied, &named) &&
+           fstat(file, &named) == 0 && is_same_file(&copied, &named) && named.st_size == (off_t)reader->image.length &&
            read_at(file, header, sizeof header, 0) == (ssize_t)sizeof header &&
            memcmp(header, reader->image.bytes, sizeof header) == 0;
 }
@@ -354,7 +365,7 @@ static uint32_t publish(struct store_writer *writer)
 static uint32_t read_whole(struct store_writer *writer)
 {
     struct store_image *image = &writer->image;
-    ssize_t length = read_at(writer->file, image->bytes, size_of(image), 0);
+    ssize_t length = read_at(writer->file, image->bytes, room_of(image), 0);
 
     if (length < 0)
         return STORE_FAILED;
@@ -540,7 +551,7 @@ static uint32_t rehearse(const struct store_image *image, const struct store_rec
     struct store_image trial = *image;
     uint32_t answer;
 
-    trial.bytes = malloc(size_of(image));
+    trial.bytes = malloc(image->length);
     if (trial.bytes == NULL)
         return STORE_FAILED;
     memcpy(trial.bytes, image->bytes, image->length);

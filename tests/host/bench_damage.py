@@ -5,8 +5,8 @@ from bench_tools import (
     COUNTS, GENERATION, NEW, OPTIONS, RANDOM, REBUILT, SENTENCES, TOTAL, holds, read, rows, same, says, there, write,
     write_certificates)
 from bench_wanted import (
-    MARK, NEW_IMAGE, NONE, OLD_IMAGE, RIGHT, WRONG, changed, checksum, flipped, loaded, mark_of, marked, reads, stored,
-    struck_out)
+    MARK, NEW_IMAGE, NONE, OLD_IMAGE, RIGHT, WRONG, changed, checksum, flipped, length_said, loaded, mark_of, marked, reads,
+    stored, struck_out)
 from images import Images
 
 WRITES = (("load", "cache", "new.csv"), ("drop", "cache", NEW[0].serial))
@@ -24,7 +24,7 @@ def without_a_bucket(image):
 def damages_of(image):
     """An image damaged in each way that asks for a rebuild, and what a load answers."""
     return ((1, changed(image, state=second.DIRTY)), (1, changed(image, generation=7)), (1, image[:-1]), (1, image[:100]),
-            (1, without_a_bucket(image)), (1, flipped(image, 300, 3)), (1, flipped(image, 0xA0, 0)),
+            (1, image + b"\0"), (1, without_a_bucket(image)), (1, flipped(image, 300, 3)), (1, flipped(image, 0xA0, 0)),
             (1, image[:0x100] + bytes(TOTAL - 0x100)), (3, changed(image, state=second.INVALIDATED)), (10, b""))
 
 
@@ -87,7 +87,7 @@ def no_cache(bench):
         for words in (*WRITES, *SHOWS, ("compare", "cache", "new.csv"))[::1 if len(data) % 16 == 1 else 4]:
             bench.leaves_alone("cache", bench.answers, answer, *words)
         if may_be_rebuilt(data):
-            same("rebuild", bench.silent("rebuild", "cache", "new.csv"), REBUILT)
+            same("rebuild", bench.done("rebuild", "cache", "new.csv"), REBUILT)
             same("list", reads(bench, "cache", "list").out, rows(NEW))
         else:
             bench.leaves_alone("cache", bench.answers, 2, "rebuild", "cache", "new.csv")
@@ -95,14 +95,23 @@ def no_cache(bench):
 
 
 def lengths(bench):
+    """An image that ends too soon, one that is whole, and one with a byte, half of another or all of another behind it. Only the
+    whole one is read or written; a rebuild makes the others whole."""
     image = loaded(bench, "cache", NEW)
-    for length, answer in ((0, 10), (100, 1), (TOTAL - 1, 1), (TOTAL, 0), (TOTAL + 1, 0), (TOTAL + 9999, 0)):
-        write("cut", (image + b"!" * 9999)[:length])
-        same(f"check of {length} bytes", bench.run("check", "cut").status, answer)
+    for length, answer in ((0, 10), (100, 1), (TOTAL - 1, 1), (TOTAL, 0), (TOTAL + 1, 1), (TOTAL + 8, 1), (TOTAL + TOTAL // 2, 1),
+                           (2 * TOTAL, 1)):
+        lent = (image + OLD_IMAGE)[:length]
+        write("cache", lent)
+        same(f"check of {length} bytes", bench.run("check", "cache").status, answer)
         for command, *words in (("check",), ("list",), ("get", NEW[0].serial), ("find", "CM1")):
-            reads(bench, "cut", command, *words)
-    bench.silent("load", "cut", "new.csv")
-    same("the bytes past the total", read("cut")[TOTAL:], b"!" * 9999)
+            reads(bench, "cache", command, *words)
+        if answer == 1:
+            for words in (*WRITES, ("compare", "cache", "new.csv"), ("export", "cache", "made.csv")):
+                says(bench.leaves_alone("cache", bench.refused, 1, SENTENCES[1], *words), length_said(lent, 0))
+            ran = bench.run("rebuild", "cache", "new.csv")
+            same("rebuild", (ran.status, ran.out), (0, REBUILT))
+            says(ran, length_said(lent, 0))
+            same("the length after a rebuild", len(read("cache")), TOTAL)
 
 
 # The checksum.

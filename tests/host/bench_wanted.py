@@ -142,6 +142,13 @@ def wanted(image, role, command, *words):
     return WANTED[command](image, OPTIONS._replace(role=role), *words)
 
 
+def length_said(image, role):
+    """What is said of the length of an image, where it needs a rebuild."""
+    if second.header_test(image, OPTIONS._replace(role=role)) != 1 or len(image) == TOTAL:
+        return None
+    return "is longer than the 45312 bytes" if len(image) > TOTAL else "is shorter than the 45312 bytes"
+
+
 def agrees(ran, image, role, command, *words):
     """A run answered as the second program does, with the sentence that belongs to the answer."""
     answer, out = wanted(image, role, command, *words)
@@ -150,6 +157,8 @@ def agrees(ran, image, role, command, *words):
     word = checksum(image, role)
     says(ran, sentence, ADVICE.get(answer, ""), "checksum" if word == WRONG else "",
          "no checksum" if word == NONE and command != "check" else "")
+    same(f"{command} {words}: {ran.err}", re.findall("is (?:longer|shorter) than the [0-9]+ bytes", ran.err),
+         list(filter(None, [length_said(image, role)])))
     holds(f"{command} of what is right: {ran.err}", answer or word == NONE or ran.err == "")
 
 

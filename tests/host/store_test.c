@@ -152,6 +152,43 @@ static void update_after_a_rebuild(void)
     free(further.bytes);
 }
 
+/* A file that is shorter or longer than its image is not read or changed, and a rebuild makes it exactly as long. */
+static void lengths(void)
+{
+    static const struct {
+        int difference, said;
+    } TRIES[] = {{-1, -1}, {-100, -1}, {1, 1}, {8, 1}, {1000, 1}};
+    struct store_reader reader;
+    struct store_writer writer;
+    struct bytes whole, other;
+
+    same(SLC1_DONE, store_create("length", &SMALL));
+    whole = contents("length");
+    other.bytes = calloc(1, whole.length + 1000);
+    memcpy(other.bytes, whole.bytes, whole.length);
+    for (size_t i = 0; i < COUNT(TRIES); i++) {
+        write_file("length", whole.bytes, whole.length);
+        same(SLC1_DONE, store_open_reader(&reader, "length", &SMALL, 0));
+        same(SLC1_DONE, store_read(&reader));
+        same(0, store_length(&reader.image));
+        other.length = whole.length + (size_t)TRIES[i].difference;
+        write_file("length", other.bytes, other.length);
+        same(SLC1_NEEDS_REBUILD, store_read(&reader)); /* though the header is the same */
+        holds(store_length(&reader.image) == TRIES[i].said);
+        store_close_reader(&reader);
+        same(SLC1_DONE, store_open_writer(&writer, "length", &SMALL));
+        holds(store_length(&writer.image) == TRIES[i].said);
+        same(SLC1_NEEDS_REBUILD, store_judge(&writer));
+        store_close_writer(&writer);
+        same(SLC1_NEEDS_REBUILD, update("length", &SMALL, 3, 1));
+        holds(is_contents("length", &other));
+        same(SLC1_DONE, rebuild("length", &SMALL, 0, 1));
+        holds(is_contents("length", &whole));
+    }
+    free(other.bytes);
+    free(whole.bytes);
+}
+
 /* A file that has taken the name since the writer opened its own is not replaced. */
 static void another_file_of_the_name(void)
 {
@@ -250,8 +287,8 @@ static void signals(void)
 int main(int count, char **words)
 {
     static void (*const TESTS[])(void) = {texts, files_of_other_kinds, options_out_of_range, creating,
-                                          records_that_are_refused, update_after_a_rebuild, another_file_of_the_name, hard_links,
-                                          other_files_are_not_replaced, signals_within, signals};
+                                          records_that_are_refused, update_after_a_rebuild, lengths, another_file_of_the_name,
+                                          hard_links, other_files_are_not_replaced, signals_within, signals};
 
     if (count != 2)
         return 64;
