@@ -24,8 +24,9 @@
 /* The version. A host that was built for one major number does not run with another: it is built anew, and may need changes.
  * The shared object's name has that number. SLC1_VERSION is "major.minor.patch".
  * What each major number changed for a host:
- *   2  a match of 0 bits compares the whole pattern; before, it was refused with 7 */
-#define SLC1_VERSION_MAJOR 2
+ *   2  a match of 0 bits compares the whole pattern; before, it was refused with 7
+ *   3  an image is lent with exactly slc1_total_size bytes; before, bytes past these were ignored */
+#define SLC1_VERSION_MAJOR 3
 #define SLC1_VERSION_MINOR 0
 #define SLC1_VERSION_PATCH 0
 #define SLC1_VERSION SLC1_DOTTED(SLC1_VERSION_MAJOR, SLC1_VERSION_MINOR, SLC1_VERSION_PATCH)
@@ -40,7 +41,7 @@ extern "C" {
  * other result is 0, save that the number of buckets comes with SLC1_NOT_PRESENT too. */
 enum {
     SLC1_DONE = 0,          /* done, or found */
-    SLC1_NEEDS_REBUILD = 1, /* damaged, or left dirty by a writer */
+    SLC1_NEEDS_REBUILD = 1, /* damaged, of another length than slc1_total_size, or left dirty by a writer */
     SLC1_INCOMPATIBLE = 2,  /* another format, or other options */
     SLC1_INVALIDATED = 3,   /* the image was given up on purpose */
     SLC1_BUSY = 4,          /* another writer is active */
@@ -80,7 +81,8 @@ typedef struct slc1_options {
 
 /* Sizes and places. 0 where the options are out of range, or slot is not below slot_capacity. */
 
-/* The number of bytes of an image. A longer one may be lent; bytes past these are never read or changed. */
+/* The number of bytes of an image. Exactly these are lent: an image that is longer or shorter by one byte is answered 1. A host
+ * that reads or maps whole pages lends the length of the file. */
 uint64_t slc1_total_size(SLC1_SIX_NUMBERS);
 
 /* Where in the image the key_size bytes of a slot's key begin. */
@@ -219,7 +221,7 @@ uint32_t slc1_match_results(
 /* Create. */
 
 /* Writes a fresh image to the start of a lent buffer, over any bytes: 0; 7 where the options are out of range; 11 where
- * the buffer is shorter than slc1_total_size. Bytes past the total stay. */
+ * the buffer is shorter than slc1_total_size. Bytes past the total stay; from then on the total alone is lent. */
 uint32_t slc1_create(uint8_t *buffer, size_t length, SLC1_SIX_NUMBERS);
 
 /* The writing calls. They want the role SLC1_LOCK_HELD: another writer gives 4, no writer known gives 7. The image is
@@ -287,7 +289,7 @@ static inline const char *slc1_text(uint32_t answer)
 {
     switch (answer) {
     case SLC1_DONE: return "done, or found";
-    case SLC1_NEEDS_REBUILD: return "the image is damaged, or was left dirty by a writer: build it again";
+    case SLC1_NEEDS_REBUILD: return "the image is damaged, too long or too short, or was left dirty by a writer: build it again";
     case SLC1_INCOMPATIBLE: return "the image is of another format, or has other options";
     case SLC1_INVALIDATED: return "the image was given up on purpose: build it again";
     case SLC1_BUSY: return "another writer is active: try again";

@@ -112,17 +112,21 @@ def listings(comparison, image, o):
     comparison.same("match_results", image, o, *matched, *window, numbers, comparison.results())
 
 
+def reads(comparison, image, o):
+    """Every call that reads."""
+    comparison.same("open_check", image, o)
+    comparison.same("full_check", image, o)
+    comparison.same("full_check_results", image, o, comparison.results())
+    lookups(comparison, image, o)
+    listings(comparison, image, o)
+
+
 def readings(comparison):
     for _ in range(4500):
         o = comparison.images.options()
         image = bytes(comparison.images.image(o))
         for _ in range(8):
-            asked = comparison.images.asked(o)
-            comparison.same("open_check", image, asked)
-            comparison.same("full_check", image, asked)
-            comparison.same("full_check_results", image, asked, comparison.results())
-            lookups(comparison, image, asked)
-            listings(comparison, image, asked)
+            reads(comparison, image, comparison.images.asked(o))
 
 
 def creations(comparison):
@@ -140,6 +144,13 @@ def move_generation(comparison, image):
         second.write_field(image, "generation", generation)
 
 
+def state_calls(comparison, image, o):
+    for name in ("begin", "checkpoint", "invalidate"):
+        comparison.same(name, image, o)
+    length = comparison.random.choice((64, 64, 64, 0, 63, 65))
+    comparison.same("set_user_fields", image, o, comparison.random.getrandbits(64), comparison.random.randbytes(length))
+
+
 def writings(comparison):
     """Every state call under every role, state and generation; the whole buffer compared."""
     for _ in range(6000):
@@ -147,11 +158,7 @@ def writings(comparison):
         image = comparison.images.image(o)
         move_generation(comparison, image)
         for _ in range(4):
-            asked = comparison.images.asked(o)
-            for name in ("begin", "checkpoint", "invalidate"):
-                comparison.same(name, image, asked)
-            length = comparison.random.choice((64, 64, 64, 0, 63, 65))
-            comparison.same("set_user_fields", image, asked, comparison.random.getrandbits(64), comparison.random.randbytes(length))
+            state_calls(comparison, image, comparison.images.asked(o))
 
 
 def user_data(comparison):
@@ -203,6 +210,22 @@ def commits(comparison):
         move_generation(comparison, image)
         for _ in range(3):
             comparison.same("commit", image, comparison.images.asked(o), comparison.images.batch(o, 8))
+
+
+def lengths(comparison):
+    """Every call on an image that its end is missing from, that is whole, that a byte or a word stands behind, or half of another or
+    all of it; as its writer left it, or damaged."""
+    for _ in range(150):
+        o = comparison.images.options()
+        total, another = second.total_size(o), comparison.images.history(o)
+        for image in (comparison.images.history(o), comparison.images.image(o)[:total]):
+            for length in (total - 1, total, total + 1, total + 8, total + total // 2, 2 * total):
+                lent = (image.ljust(total, b"\0") + another)[:length]
+                for role in range(3):
+                    asked = o._replace(role=role)
+                    reads(comparison, bytes(lent), asked)
+                    state_calls(comparison, lent, asked)
+                    comparison.same("commit", lent, asked, comparison.images.batch(o))
 
 
 def holding(o, *keys):
@@ -273,7 +296,8 @@ def main():
     seed = int(sys.argv[1]) if len(sys.argv) > 1 else 1
     comparison = Comparison(seed)
     began = time.monotonic()
-    for part in (digests, ages, places, readings, creations, writings, user_data, histories, commits, keys, whole_patterns):
+    for part in (digests, ages, places, readings, creations, writings, user_data, histories, commits, lengths, keys,
+                 whole_patterns):
         part(comparison)
     listed = dict(numbers_listed())
     if listed.keys() != set(JUDGED.values()):

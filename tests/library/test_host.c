@@ -301,8 +301,11 @@ static void written(void)
     same("create", slc1_create(fresh, sizeof fresh, SLC1_OPTIONS(&own)), SLC1_DONE);
     same("the byte past the total", fresh[344], 0xa5);
     same("a fresh image", slc1_full_check(fresh, 344, SLC1_OPTIONS(&own)), SLC1_DONE);
+    same("and the byte past it", slc1_full_check(fresh, 345, SLC1_OPTIONS(&own)), SLC1_NEEDS_REBUILD);
+    same("and without its last", slc1_full_check(fresh, 343, SLC1_OPTIONS(&own)), SLC1_NEEDS_REBUILD);
     same("user fields on CLEAN", slc1_set_user_fields(fresh, 344, SLC1_OPTIONS(&own), 9, data, 64), SLC1_INVALID_INPUT);
     same("begin", slc1_begin(fresh, 344, SLC1_OPTIONS(&own)), SLC1_DONE);
+    same("commit to a longer one", slc1_commit(fresh, 345, SLC1_OPTIONS(&own), batch, 56), SLC1_NEEDS_REBUILD);
     same("commit of a record", slc1_commit(fresh, 344, SLC1_OPTIONS(&own), batch, 56), SLC1_DONE);
     same("its revision", (uint64_t)slc1_lookup_revision(fresh, 344, SLC1_OPTIONS(&own), batch + 8, 12), 5);
     same("part of a record", slc1_commit(fresh, 344, SLC1_OPTIONS(&own), batch, 55), SLC1_INVALID_INPUT);

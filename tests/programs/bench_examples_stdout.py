@@ -25,10 +25,11 @@ SMALL = second.Options(1, 0, 3, 1, 0, 2)
 
 
 def lengths():
-    image = bytearray(45312)
-    second.create(image, LARGE)
-    yield f"length 45311 answers {second.open_check(image[:45311], LARGE).answer}"
-    yield f"length 45312 answers {second.open_check(image, LARGE).answer}"
+    buffer = bytearray(45313)
+    second.create(buffer, LARGE)
+    for length in (45311, 45312, 45313):
+        yield f"length {length} answers {second.open_check(buffer[:length], LARGE).answer}"
+    image = buffer[:45312]
     yield f"a key of 11 bytes answers {second.lookup(image, LARGE, b'SENSOR-0001').answer}"
     yield f"a key of 12 bytes answers {second.lookup(image, LARGE, b'SENSOR-00012').answer}"
 

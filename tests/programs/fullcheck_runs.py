@@ -59,8 +59,8 @@ def inputs():
     yield "a fresh image", fresh()
     yield "a used image", image
     yield "a damaged image", damaged(image)
-    for length in (0, 100, 45311, 45312, 65536, 65537):
-        yield f"{length} bytes", (image + bytes(65537))[:length]
+    for length in (0, 100, 45311, 45312, 45313, 65536, 65537):
+        yield f"{length} bytes of two images, one behind the other", (image + image)[:length]
 
 
 def command():

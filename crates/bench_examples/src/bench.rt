@@ -35,12 +35,14 @@ fn opened(label: &[u8], image: &[u8]) {
     print::decimal(label, answer as u64);
 }
 
-// "Length 45,311 is 1; 45,312 opens."
+// "Length 45,311 is 1; 45,312 opens." And "a length other than the total is 1" (CR 8): create takes a longer buffer, but all of it
+// is no image.
 pub fn lengths() {
-    let mut image = [0u8; 45312];
-    create(&mut image, large());
-    opened(b"length 45311 answers", &image[0..45311]);
-    opened(b"length 45312 answers", &image[0..45312]);
+    let mut buffer = [0u8; 45313];
+    create(&mut buffer, large());
+    opened(b"length 45311 answers", &buffer[0..45311]);
+    opened(b"length 45312 answers", &buffer[0..45312]);
+    opened(b"length 45313 answers", &buffer);
 }
 
 // Prints what lookup answers of a key in a fresh image.

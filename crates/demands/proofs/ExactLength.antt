@@ -2,7 +2,7 @@
 -- Assumes nothing.
 use Prim.Native.Nat.{ℕ, zero, suc, _+_, _*_, _≤_, _<_}
 use mathlib.Core.Bool.{Bool, true, false, not, _&&_, _||_}
-use mathlib.Core.Path.{_≡_, refl, sym, ap, ap₂, _∙_, fun-ext}
+use mathlib.Core.Path.{_≡_, refl, sym, ap, _∙_, fun-ext}
 use mathlib.Core.List.{List, [], _∷_, _++_, append-assoc}
 use native.Mathlib.Omega.{arith}
 use borrow.Author.Tests.{eqb-true, ne-eqb, le-ltb}
@@ -126,7 +126,8 @@ writes : {numbers : List ℕ} (call : Options → List ℕ → Written) → Judg
 writes call judges leaves o image other =
     let refuses : headerTest o image ≡ 0 → ⊥ = λ z. some-number o image other (sym (header o image other) ∙ z) in
     let answer = judges .header o image refuses ∙ header o image other in
-    ap₂ written answer (leaves o image (λ z. some-number o image other (sym answer ∙ z)))
+    let left = leaves o image (λ z. some-number o image other (sym answer ∙ z)) in
+    λ i. written (answer i) (left i)
 
 -- bytes behind an image that has a header
 module _ (o : Options) (image more : List ℕ) (long : 256 ≤ length image) where
