@@ -28,6 +28,12 @@ def run(*words, **more):
     return subprocess.run(words, cwd=ROOT, stdout=subprocess.PIPE, text=True, check=True, **more).stdout
 
 
+def typed(command):
+    """What a command prints, and its exit status where that is not 0, as the demo shows it."""
+    ran = subprocess.run(command, cwd=ROOT, shell=True, stdout=subprocess.PIPE, stderr=subprocess.STDOUT, text=True)
+    return ran.stdout + (f"[exit status {ran.returncode}]\n" if ran.returncode else "")
+
+
 def same(what, made, shown):
     if made != shown:
         sys.exit(f"README: {what} is not as shown\nmade:\n{made}\nshown:\n{shown}")
@@ -98,7 +104,7 @@ def main():
     save_first(WORK)
     for shown in AFTER_DEMO:
         commands = re.findall(r"^\$ (.*)$", shown, re.M)
-        made = "".join(f"$ {command}\n" + run("sh", "-c", on_first(WORK + "/first", command)) for command in commands)
+        made = "".join(f"$ {command}\n" + typed(on_first(WORK + "/first", command)) for command in commands)
         same(f"'{commands[0]}'", made, shown)
     print(f"README's demo, {len(AFTER_DEMO)} blocks of commands after it, its picture and its words on trust are as shown")
     print(kit())
