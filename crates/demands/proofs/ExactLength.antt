@@ -34,6 +34,7 @@ use Rattle.writing.proofs.OneField.{in-header}
 use Rattle.writing.proofs.Tests.{past}
 use Rattle.writing.proofs.Zeros.{part-append}
 use Rattle.soundness.proofs.Accepted.{role-passed}
+use Rattle.host.specs.UserData.{userDataOf}
 use Rattle.host.proofs.Failed.{after-failed}
 use Rattle.demands.specs.Demand1.{Judges, LeavesAlone}
 use Rattle.demands.specs.ExactLength.{earlier, number, OtherLength, unchanged, ExactLength}
@@ -206,7 +207,7 @@ module _ (o : Options) (buffer : List ℕ) (version : Word (o .«user_version»)
       (behind o (fresh o) (drop (totalSize o) buffer) fresh-passes (omega (arith, length-drop (totalSize o) buffer)))
 
 pub exact-length : ExactLength
-unfolding openOf checkOf scanOf matchOf totalSize
+unfolding openOf checkOf scanOf matchOf userDataOf totalSize
 exact-length =
     record {
       exact = exact;
@@ -222,6 +223,9 @@ exact-length =
       invalidate = writes invalidateOf (demand1 .invalidate-judges) (demand1 .invalidate-leaves);
       set-user-fields = λ fields. writes _ (demand1 .user-judges fields) (λ o image. demand1 .user-leaves o image fields);
       commit = λ batch. writes _ (demand1 .commit-judges batch) (λ o image. demand1 .commit-leaves o image batch);
+      user-data = λ out o image other. read o image other _ _;
+      user-slice = λ flags bytes.
+          writes _ (demand1 .user-slice-judges flags bytes) (λ o image. demand1 .user-slice-leaves o image flags bytes);
       behind = behind;
       create = create;
       lent = lent;

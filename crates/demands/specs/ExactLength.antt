@@ -19,6 +19,7 @@ use Rattle.writing.specs.Write.{Written}
 use Rattle.writing.specs.Create.{createOf}
 use Rattle.writing.specs.State.{beginOf, checkpointOf, invalidateOf, setUserFieldsOf}
 use Rattle.commit.specs.Commit.{commitOf}
+use Rattle.host.specs.UserData.{filled, userDataOf, setUserFieldsFrom}
 use Rattle.maps.specs.Map.{Map}
 use Rattle.demands.specs.History.{Word, freshIn, History}
 use Rattle.demands.specs.Owes.{written}
@@ -62,6 +63,9 @@ pub record ExactLength : Type 0 where
   pub invalidate : OtherLength invalidateOf unchanged
   pub set-user-fields : (fields : UserFields) → OtherLength (λ o image. setUserFieldsOf o image fields) unchanged
   pub commit : (batch : List ℕ) → OtherLength (λ o image. commitOf o image batch) unchanged
+  -- and by the calls for C that hand out or take user data as a slice
+  pub user-data : (out : List ℕ) → OtherLength (λ o image. userDataOf o image out) (λ image n. filled n out)
+  pub user-slice : (flags : ℕ) (bytes : List ℕ) → OtherLength (λ o image. setUserFieldsFrom o image flags bytes) unchanged
   -- "A bench loaded an image with half of another behind it.": with even one byte behind it, an image that passes is 1
   pub behind : (o : Options) (image more : List ℕ) → headerTest o image ≡ done → 1 ≤ length more
       → headerTest o (image ++ more) ≡ needs-rebuild
