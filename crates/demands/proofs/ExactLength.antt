@@ -5,22 +5,25 @@ use mathlib.Core.Bool.{Bool, true, false, not, _&&_, _||_}
 use mathlib.Core.Path.{_≡_, refl, sym, ap, _∙_, fun-ext}
 use mathlib.Core.List.{List, [], _∷_, _++_, append-assoc}
 use native.Mathlib.Omega.{arith}
-use borrow.Author.Tests.{eqb-true, ne-eqb, le-ltb}
+use native.Mathlib.Decide.{decLt}
+use borrow.Author.Tests.{eqb-true, ne-eqb, lt-ltb, le-ltb}
 use lib.Dec.{eqb}
-use lib.ListN.{length, drop, length-append, length-drop}
-use lib.Seq.{take-append-le, drop-append-le}
+use lib.ListN.{length, take, drop, length-append, length-drop, take-append-drop}
+use lib.Seq.{length-take-le, take-append-le, drop-append-le}
+use Rattle.numbers.proofs.Put.{part-append}
 use Rattle.digests.specs.Crc.{headerCrc}
 use Rattle.header.specs.declared.options.Options.{Options}
 use Rattle.header.specs.Answer.{needs-rebuild}
 use Rattle.header.specs.Fields as F
 use Rattle.header.specs.Fields.{fieldOf, bytesIn, value}
 use Rattle.header.specs.FirstOf.{firstOf}
-use Rattle.header.specs.HeaderTest.{test1, test2, test3, test4, test5, test6, test7, test8, test9, test10, test11, test12, headerTests, headerTest, shapeOf, afterTest}
+use Rattle.header.specs.HeaderTest.{test1, test2, test3, test4, test5, test6, test7, test8, test9, test10, test11, test12, headerTests, headerTest, layoutOf, shapeOf, afterTest}
 use Rattle.header.specs.Open.{openOf}
 use Rattle.header.specs.Sizes.{bucketsOffset, totalSize}
 use Rattle.header.proofs.Firsts.{first-none, first-stops}
-use Rattle.header.proofs.PassedTests.{agreed, ruled, extent-passed, length-passed}
-use Rattle.header.proofs.Stages.{passes}
+use Rattle.header.proofs.Fit.{judged-fit, fit-shaped}
+use Rattle.header.proofs.PassedTests.{agreed, ruled, length-passed, role-passed}
+use Rattle.header.proofs.Stages.{staged, passes}
 use Rattle.image.specs.declared.lookup.Lookup.{Lookup}
 use Rattle.image.specs.Lookup.{nothing, lookupIn, lookupOf, indexPart}
 use Rattle.image.specs.Check.{checkOf}
@@ -29,22 +32,23 @@ use Rattle.listing.specs.Match.{matchOf}
 use Rattle.writing.specs.Write.{Written, unless}
 use Rattle.writing.specs.Create.{createTests, fresh, createOf}
 use Rattle.writing.specs.State.{beginOf, checkpointOf, invalidateOf}
+use Rattle.writing.proofs.Answers.{answers}
 use Rattle.writing.proofs.Fresh.{fresh-header}
+use Rattle.writing.proofs.Making.{enough}
 use Rattle.writing.proofs.OneField.{in-header}
 use Rattle.writing.proofs.Tests.{past}
-use Rattle.writing.proofs.Zeros.{part-append}
-use Rattle.soundness.proofs.Accepted.{role-passed}
+use Rattle.writing.proofs.Tests as tests
 use Rattle.host.specs.UserData.{userDataOf}
 use Rattle.host.proofs.Failed.{after-failed}
 use Rattle.demands.specs.Demand1.{Judges, LeavesAlone}
-use Rattle.demands.specs.ExactLength.{earlier, number, OtherLength, unchanged, ExactLength}
+use Rattle.demands.specs.ExactLength.{nine, number, OtherLength, unchanged, ExactLength}
 use Rattle.demands.specs.History.{Word, writer, freshIn}
 use Rattle.demands.specs.Owes.{written}
 use Rattle.demands.proofs.Created.{create-allowed, create-left, fresh-in}
 use Rattle.demands.proofs.Demand1.{demand1}
 use Rattle.demands.proofs.HistoryInvariant.{writer-header, held}
 
--- where tests 8 and 9 pass and the offset is right, the total that the header gives is that of the options
+-- where the tests before the tenth pass and the offset is right, the total that the header gives is that of the options
 ends : (o : Options) (image : List ℕ) → firstOf (test8 o image) ≡ 0 → firstOf (test9 o image) ≡ 0
     → value image F.buckets-offset ≡ bucketsOffset (value image F.slot-capacity) (value image F.slot-size)
     → value image F.buckets-offset + 16 * value image F.bucket-count ≡ totalSize o
@@ -53,17 +57,20 @@ ends o image eighth ninth offset =
     let a = agreed o image eighth in rw (offset, ruled o image ninth, a .capacity, a .slot) refl
 
 exact : (o : Options) (image : List ℕ) → headerTest o image ≡ 0 → length image ≡ totalSize o
+unfolding shapeOf layoutOf
 exact o image z =
     let p = passes o image z in
-    let extent = extent-passed image (p .tenth) in
-    extent .1 ∙ ends o image (p .eighth) (p .ninth) (extent .0)
+    let laid = fit-shaped o image (shapeOf image) (judged-fit o image z) .laid in
+    laid .size ∙ ends o image (p .eighth) (p .ninth) (laid .offset)
 
--- the tests before the eighth, and before the tenth
+-- the tests before the eighth
 abbrev seven : Options → List ℕ → List (Bool × ℕ)
 seven o image = test1 o ++ test2 image ++ test3 image ++ test4 o image ++ test5 image ++ test6 image ++ test7 image
 
-abbrev before : Options → List ℕ → List (Bool × ℕ)
-before o image = seven o image ++ test8 o image ++ test9 o image
+-- the header test, with the tests from the tenth on apart
+apart : (o : Options) (image : List ℕ) → headerTest o image ≡ firstOf (nine o image ++ (test10 image ++ (test11 image ++ test12 o image)))
+unfolding headerTest headerTests
+apart o image = simp append-assoc
 
 module _ (o : Options) (image : List ℕ) where
   abbrev right : Bool
@@ -84,30 +91,20 @@ module _ (o : Options) (image : List ℕ) where
         go true false e = refl
         go false second e = refl
 
-    -- a number of the tests up to the tenth is the header test's
-    stops : {n : ℕ} → n ≡ firstOf (before o image ++ test10 image) → (n ≡ 0 → ⊥) → headerTest o image ≡ n
-    unfolding headerTest headerTests
-    stops e some =
-        let tests = before o image ++ test10 image in
-        sym (first-stops (tests ++ test11 image) (test12 o image) (first-stops tests (test11 image) e some) some)
+    after-nine : firstOf (nine o image) ≡ 0 → firstOf (test10 image ++ (test11 image ++ test12 o image)) ≡ needs-rebuild
+    unfolding test1 test2 test3 test4 test5 test6 test7 test8 test9
+    after-nine none =
+        let last = first-none (seven o image ++ test8 o image) (test9 o image) tt none in
+        let eighth = first-none (seven o image) (test8 o image) tt (last .0) .1 in
+        sym (first-stops (test10 image) (test11 image ++ test12 o image) (sym (tenth eighth (last .1))) (λ e. omega arith))
 
     header : headerTest o image ≡ number o image
-    unfolding test1 test2 test3 test4 test5 test6 test7 test8 test9
-    header = go (earlier o image) refl
-      where
-        go : (n : ℕ) → earlier o image ≡ n → headerTest o image ≡ afterTest n needs-rebuild (λ m. m)
-        go zero z =
-            let last = first-none (seven o image ++ test8 o image) (test9 o image) tt z in
-            let eighth = first-none (seven o image) (test8 o image) tt (last .0) .1 in
-            stops (sym (past (before o image) (test10 image) tt z ∙ tenth eighth (last .1))) (λ e. omega arith)
-        go (suc n) e = stops (first-stops (before o image) (test10 image) (sym e) (λ z. omega arith)) (λ z. omega arith)
+    unfolding firstOf
+    header = apart o image ∙ tests.behind (nine o image) (test10 image ++ (test11 image ++ test12 o image)) ((true, needs-rebuild) ∷ []) after-nine
 
     some-number : number o image ≡ 0 → ⊥
-    some-number = go (earlier o image)
-      where
-        go : (n : ℕ) → afterTest n needs-rebuild (λ m. m) ≡ 0 → ⊥
-        go zero e = omega arith
-        go (suc n) e = omega arith
+    unfolding firstOf test1 test2 test3 test4 test5 test6 test7 test8 test9
+    some-number z = let one = first-none (nine o image) ((true, needs-rebuild) ∷ []) tt z .1 in omega (arith, one)
 
     -- a call that goes on behind the header test does not
     read : {A : Type 0} (go : A) (refuse : ℕ → A) → afterTest (headerTest o image) go refuse ≡ refuse (number o image)
@@ -150,25 +147,59 @@ module _ (o : Options) (image more : List ℕ) (long : 256 ≤ length image) whe
       rw (ne-eqb (length (image ++ more)) 0 (λ e. omega arith), le-ltb (length (image ++ more)) 256 long′, ne-eqb (length image) 0 (λ e. omega arith), le-ltb (length image) 256 long) refl
 
   -- the tests before the tenth don't see them
-  same-before : before o (image ++ more) ≡ before o image
+  same-nine : nine o (image ++ more) ≡ nine o image
   unfolding test3 test4 test5 test6 test7 test8 test9 value
-  same-before = rw (same-second, same-fields, same-crc) refl
+  same-nine = rw (same-second, same-fields, same-crc) refl
 
 -- where the header test passes, none of the tests before the tenth holds
-none-before : (o : Options) (image : List ℕ) → headerTest o image ≡ 0 → earlier o image ≡ 0
-unfolding headerTest headerTests test1 test2 test3 test4 test5 test6 test7 test8 test9 test10 test11
-none-before o image z =
-    let to11 = first-none (before o image ++ test10 image ++ test11 image) (test12 o image) tt z .0 in
-    let to10 = first-none (before o image ++ test10 image) (test11 image) tt to11 .0 in
-    first-none (before o image) (test10 image) tt to10 .0
+none-of-nine : (o : Options) (image : List ℕ) → headerTest o image ≡ 0 → firstOf (nine o image) ≡ 0
+unfolding test1 test2 test3 test4 test5 test6 test7 test8 test9
+none-of-nine o image z = first-none (nine o image) _ tt (sym (apart o image) ∙ z) .0
+
+-- and where none of them holds, another length is 1
+is-one : (o : Options) (image : List ℕ) → (length image ≡ totalSize o → ⊥) → firstOf (nine o image) ≡ 0 → headerTest o image ≡ needs-rebuild
+unfolding firstOf test1 test2 test3 test4 test5 test6 test7 test8 test9
+is-one o image other none = header o image other ∙ past (nine o image) ((true, needs-rebuild) ∷ []) tt none
 
 behind : (o : Options) (image more : List ℕ) → headerTest o image ≡ 0 → 1 ≤ length more → headerTest o (image ++ more) ≡ needs-rebuild
 behind o image more z some =
     let size = exact o image z in
     let long = length-passed image (passes o image z .second) in
-    let none = ap firstOf (same-before o image more long) ∙ none-before o image z in
-    header o (image ++ more) (λ e. omega (arith, length-append image more))
-    ∙ ap (λ (n : ℕ). afterTest n needs-rebuild (λ m. m)) none
+    is-one o (image ++ more) (λ e. omega (arith, length-append image more))
+    (ap firstOf (same-nine o image more long) ∙ none-of-nine o image z)
+
+-- an image without its end: it may have lost a part of the header too
+module _ (o : Options) (image : List ℕ) (n : ℕ) (z : headerTest o image ≡ 0) (some : 1 ≤ n) (fewer : n < totalSize o) where
+  abbrev short : List ℕ
+  short = take n image
+
+  short-length : length short ≡ n
+  short-length = length-take-le n image (omega (arith, exact o image z))
+
+  second-holds : n < 256 → needs-rebuild ≡ firstOf (test2 short)
+  unfolding test2 firstOf
+  second-holds l =
+      rw (short-length, ne-eqb n 0 (λ e. omega arith), lt-ltb n 256 l) refl
+
+  cut : headerTest o short ≡ needs-rebuild
+  unfolding test1
+  cut = go (decLt n 256)
+    where
+      go : Dec (n < 256) → headerTest o short ≡ needs-rebuild
+      go (yes l) =
+          staged o short
+          ∙ past (test1 o) _ tt (passes o image z .first)
+          ∙ sym (first-stops (test2 short) _ (second-holds l) (λ e. omega arith))
+      go (no l) =
+          is-one o short (λ e. omega (arith, short-length))
+          (sym (ap firstOf (same-nine o short (drop n image) (omega (arith, short-length))))
+          ∙ ap (λ (i : List ℕ). firstOf (nine o i)) (take-append-drop n image)
+          ∙ none-of-nine o image z)
+
+accepts : (o : Options) (buffer : List ℕ) → firstOf (test1 o) ≡ 0 → totalSize o ≤ length buffer → createOf o buffer .answer ≡ 0
+unfolding createOf
+accepts o buffer first long =
+    answers buffer (fresh o ++ drop (totalSize o) buffer) (firstOf (createTests o buffer)) ∙ enough o buffer first refl long
 
 -- a longer buffer
 module _ (o : Options) (buffer more : List ℕ) (size : length buffer ≡ totalSize o) where
@@ -195,16 +226,16 @@ module _ (o : Options) (buffer more : List ℕ) (size : length buffer ≡ totalS
 
 -- what create wrote, lent alone and with all of the buffer
 module _ (o : Options) (buffer : List ℕ) (version : Word (o .«user_version»)) (a : createOf o buffer .answer ≡ 0) where
-  fresh-passes : headerTest o (fresh o) ≡ 0
-  fresh-passes = let first = create-allowed o buffer a in fresh-header o first version (o .role) (role-passed o first)
+  fresh-opens : headerTest o (fresh o) ≡ 0
+  fresh-opens = let first = create-allowed o buffer a in fresh-header o first version (o .role) (role-passed o first)
 
   lent : headerTest o (freshIn o buffer) ≡ 0
-  lent = rw (fresh-in o buffer a) fresh-passes
+  lent = rw (fresh-in o buffer a) fresh-opens
 
   not-lent : totalSize o < length buffer → headerTest o (createOf o buffer .image) ≡ needs-rebuild
   not-lent longer =
       rw (create-left o buffer a)
-      (behind o (fresh o) (drop (totalSize o) buffer) fresh-passes (omega (arith, length-drop (totalSize o) buffer)))
+      (behind o (fresh o) (drop (totalSize o) buffer) fresh-opens (omega (arith, length-drop (totalSize o) buffer)))
 
 pub exact-length : ExactLength
 unfolding openOf checkOf scanOf matchOf userDataOf totalSize
@@ -227,6 +258,8 @@ exact-length =
       user-slice = λ flags bytes.
           writes _ (demand1 .user-slice-judges flags bytes) (λ o image. demand1 .user-slice-leaves o image flags bytes);
       behind = behind;
+      cut = cut;
+      accepts = accepts;
       create = create;
       lent = lent;
       not-lent = not-lent;

@@ -2,13 +2,14 @@
 -- Assumes nothing.
 use Prim.Native.Nat.{ℕ, _≤_, _<_}
 use mathlib.Core.Path.{_≡_}
-use mathlib.Core.List.{List, [], _++_}
-use lib.ListN.{length}
+use mathlib.Core.Bool.{Bool, true}
+use mathlib.Core.List.{List, [], _∷_, _++_}
+use lib.ListN.{length, take}
 use Rattle.header.specs.declared.options.Options.{Options}
 use Rattle.header.specs.declared.open.UserFields.{UserFields}
 use Rattle.header.specs.Answer.{done, needs-rebuild}
 use Rattle.header.specs.FirstOf.{firstOf}
-use Rattle.header.specs.HeaderTest.{test1, test2, test3, test4, test5, test6, test7, test8, test9, headerTest, afterTest}
+use Rattle.header.specs.HeaderTest.{test1, test2, test3, test4, test5, test6, test7, test8, test9, headerTest}
 use Rattle.header.specs.Open.{noFields, openOf}
 use Rattle.header.specs.Sizes.{totalSize}
 use Rattle.image.specs.Lookup.{nothing, lookupOf, indexPart}
@@ -24,18 +25,17 @@ use Rattle.maps.specs.Map.{Map}
 use Rattle.demands.specs.History.{Word, freshIn, History}
 use Rattle.demands.specs.Owes.{written}
 
--- what the nine tests before the tenth give: the number of the first that holds, or 0
-abbrev pub earlier : Options → List ℕ → ℕ
-earlier o image =
-    firstOf
-    (test1 o ++ test2 image ++ test3 image ++ test4 o image ++ test5 image ++ test6 image ++ test7 image ++ test8 o image
-    ++ test9 o image)
+-- the nine tests before the tenth
+abbrev pub nine : Options → List ℕ → List (Bool × ℕ)
+nine o image =
+    test1 o ++ test2 image ++ test3 image ++ test4 o image ++ test5 image ++ test6 image ++ test7 image ++ test8 o image
+    ++ test9 o image
 
--- "a length other than the total is 1", or an earlier test's number
+-- "a length other than the total is 1", unless one of these gives another number
 abbrev pub number : Options → List ℕ → ℕ
-number o image = afterTest (earlier o image) needs-rebuild (λ n. n)
+number o image = firstOf (nine o image ++ (true, needs-rebuild) ∷ [])
 
--- what a call gives on every image of another length than the total: what its refusal is, with that number
+-- what a call gives on every image of another length than the total: its refusal, with that number
 abbrev pub OtherLength : {A : Type 0} → (Options → List ℕ → A) → (List ℕ → ℕ → A) → Type 0
 OtherLength call refusal =
     (o : Options) (image : List ℕ) → (length image ≡ totalSize o → ⊥) → call o image ≡ refusal image (number o image)
@@ -45,7 +45,7 @@ abbrev pub unchanged : List ℕ → ℕ → Written
 unchanged image n = written n image
 
 pub record ExactLength : Type 0 where
-  -- "From now on a length other than the total is 1.": what passes has the total's
+  -- "From now on a length other than the total is 1.": what passes has the total's length, and any other is refused
   pub exact : (o : Options) (image : List ℕ) → headerTest o image ≡ done → length image ≡ totalSize o
   pub header : OtherLength headerTest (λ image n. n)
   -- by every call that reads
@@ -66,10 +66,15 @@ pub record ExactLength : Type 0 where
   -- and by the calls for C that hand out or take user data as a slice
   pub user-data : (out : List ℕ) → OtherLength (λ o image. userDataOf o image out) (λ image n. filled n out)
   pub user-slice : (flags : ℕ) (bytes : List ℕ) → OtherLength (λ o image. setUserFieldsFrom o image flags bytes) unchanged
-  -- "A bench loaded an image with half of another behind it.": with even one byte behind it, an image that passes is 1
+  -- "A bench loaded an image with half of another behind it.": an image that passes is 1 with even one byte behind it, and
+  -- without its end
   pub behind : (o : Options) (image more : List ℕ) → headerTest o image ≡ done → 1 ≤ length more
       → headerTest o (image ++ more) ≡ needs-rebuild
+  pub cut : (o : Options) (image : List ℕ) (n : ℕ) → headerTest o image ≡ done → 1 ≤ n → n < totalSize o
+      → headerTest o (take n image) ≡ needs-rebuild
   -- "create still accepts a longer buffer": it makes of the total's bytes what it makes of them alone, and leaves the rest
+  pub accepts : (o : Options) (buffer : List ℕ) → firstOf (test1 o) ≡ 0 → totalSize o ≤ length buffer
+      → createOf o buffer .answer ≡ done
   pub create : (o : Options) (buffer more : List ℕ) → length buffer ≡ totalSize o
       → createOf o (buffer ++ more) ≡ written (createOf o buffer .answer) (createOf o buffer .image ++ more)
   -- "but the caller must lend exactly the total afterwards": that passes, and with all of a longer buffer it is 1

@@ -1,7 +1,7 @@
 -- What it says of an image that a test of the header test passed.
 -- Assumes nothing.
 use Prim.Native.Nat.{ℕ, _+_, _*_, _^_, _≤_}
-use mathlib.Core.Bool.{Bool, true, not, _&&_, _||_, and-eq-true-iff}
+use mathlib.Core.Bool.{Bool, true, false, not, _&&_, _||_, and-eq-true-iff}
 use mathlib.Core.Path.{_≡_}
 use mathlib.Core.List.{List, [], _∷_}
 use borrow.Author.Tests.{eqb-true, leb-true, ltb-false, not-false}
@@ -16,12 +16,23 @@ use Rattle.header.specs.HeaderTest.{powerOfTwo, test1, test2, test8, tes
 use Rattle.header.proofs.Firsts.{first-none, fails, neither}
 use Rattle.header.proofs.Allowed.{Allowed, offset-fits, buckets-fit}
 
--- "Options outside the sizes": not these
-pub allowed-passed : (o : Options) → firstOf (test1 o) ≡ 0 → sizesAllowed o ≡ true
-unfolding test1
-allowed-passed o z =
-    let n : Bool = not (sizesAllowed o) in
-    not-false (sizesAllowed o) (neither n (ltb 1 (o .ordered)) (neither (n || ltb 1 (o .ordered)) (ltb 2 (o .role)) (fails (n || ltb 1 (o .ordered) || ltb 2 (o .role)) 6 z) .0) .0)
+-- "Options outside the sizes, ordered above 1, or role above 2": none of these
+module _ (o : Options) (z : firstOf (test1 o) ≡ 0) where
+  abbrev outside : Bool
+  outside = not (sizesAllowed o)
+
+  in-range : (outside || ltb 1 (o .ordered) ≡ false) × (ltb 2 (o .role) ≡ false)
+  unfolding test1
+  in-range = neither (outside || ltb 1 (o .ordered)) (ltb 2 (o .role)) (fails (outside || ltb 1 (o .ordered) || ltb 2 (o .role)) 6 z)
+
+  pub allowed-passed : sizesAllowed o ≡ true
+  allowed-passed = not-false (sizesAllowed o) (neither outside (ltb 1 (o .ordered)) (in-range .0) .0)
+
+  pub ordered-passed : o .ordered ≤ 1
+  ordered-passed = ltb-false 1 (o .ordered) (neither outside (ltb 1 (o .ordered)) (in-range .0) .1)
+
+  pub role-passed : o .role ≤ 2
+  role-passed = ltb-false 2 (o .role) (in-range .1)
 
 -- "Length 0", "Length 1 to 255": neither
 pub length-passed : (image : List ℕ) → firstOf (test2 image) ≡ 0 → 256 ≤ length image
@@ -30,7 +41,7 @@ length-passed image z =
     let short : Bool = ltb (length image) 256 in
     ltb-false (length image) 256 (fails short 0 (first-none ((eqb (length image) 0, 10) ∷ []) ((short, 1) ∷ []) tt z .1))
 
--- "An offset wrong, or a length other than the total": neither
+-- "An offset wrong, or a length other than the total" (CR 8): neither
 pub extent-passed : (image : List ℕ) → firstOf (test10 image) ≡ 0
     → (value image F.buckets-offset ≡ bucketsOffset (value image F.slot-capacity) (value image F.slot-size))
     × (length image ≡ value image F.buckets-offset + 16 * value image F.bucket-count)

@@ -7,7 +7,7 @@ use native.Mathlib.Nat.{add-zero, add-assoc}
 use native.Mathlib.Numerals.{add-one}
 use native.Mathlib.Omega.{arith}
 use lib.ListN.{length, getD, set, take, drop, length-append, length-drop, take-append-drop, replicate, length-replicate, replicate-append-replicate}
-use lib.Seq.{drop-cons, length-take-le, take-suc, take-add, drop-drop, take-at, drop-append-add, sets, sets-eq}
+use lib.Seq.{drop-cons, length-take-le, take-suc, take-add, drop-drop, take-at, take-append-le, drop-append-le, drop-append-add, sets, sets-eq}
 use Rattle.numbers.specs.Bytes.{part, put}
 
 -- one byte of a part, and the rest of it
@@ -19,6 +19,12 @@ part-cons s at n h = rw (add-one, drop-cons s at 0)
 pub part-add : (s : List ℕ) (at n m : ℕ) → part s at (n + m) ≡ part s at n ++ part s (at + n) m
 unfolding part
 part-add s at n m = take-add n m (drop at s) ∙ ap (λ (l : List ℕ). take n (drop at s) ++ take m l) (drop-drop n at s)
+
+-- a part of a list with others behind it
+pub part-append : (a b : List ℕ) (at n : ℕ) → at + n ≤ length a → part (a ++ b) at n ≡ part a at n
+unfolding part
+part-append a b at n h =
+    rw (drop-append-le at a b (omega arith), take-append-le n (drop at a) b (rw length-drop (omega arith))) refl
 
 pub length-part : (s : List ℕ) (at n : ℕ) → at + n ≤ length s → length (part s at n) ≡ n
 unfolding part

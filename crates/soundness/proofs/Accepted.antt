@@ -1,7 +1,7 @@
 -- What it says of an image and a batch that none of the commit's tests holds.
 -- Assumes nothing.
 use Prim.Native.Nat.{ℕ, _+_, _-_, _^_, _≤_, _<_}
-use mathlib.Core.Bool.{Bool, true, false, not, _&&_, _||_}
+use mathlib.Core.Bool.{Bool, true, false, not, _&&_}
 use mathlib.Core.Path.{_≡_, sym, _∙_}
 use mathlib.Core.List.{List, [], _∷_}
 use native.Mathlib.Omega.{arith}
@@ -16,11 +16,10 @@ use Rattle.header.specs.Fields.{value}
 use Rattle.header.specs.FirstOf.{firstOf}
 use Rattle.header.specs.State.{CLEAN, INVALIDATED, DIRTY}
 use Rattle.header.specs.HeaderTest.{test1, test2, test3, test4, test5, test6, test7, test8, test9, test10, test11, test12, headerTests, headerTest, shapeOf}
-use Rattle.header.specs.Sizes.{sizesAllowed}
 use Rattle.header.specs.Shaped.{Shaped}
-use Rattle.header.proofs.Firsts.{first-none, fails, neither}
+use Rattle.header.proofs.Firsts.{first-none, fails}
 use Rattle.header.proofs.Fit.{judged-fit, fit-shaped}
-use Rattle.header.proofs.PassedTests.{length-passed}
+use Rattle.header.proofs.PassedTests.{length-passed, role-passed}
 use Rattle.image.specs.Table.{tableOf}
 use Rattle.image.specs.Check.{passes}
 use Rattle.writing.specs.State.{writingTests, cleanTest, generationTest, userTests}
@@ -41,13 +40,6 @@ pub record Accepted (o : Options) (image batch : List ℕ) : Type 0 where
   pub more : value image F.generation + 2 < 2 ^ 64
   pub right : batchWrong (shapeOf image .layout) batch ≡ false
   pub ready : Ready (shapeOf image) image batch
-
--- test 1: "role above 2"
-pub role-passed : (o : Options) → firstOf (test1 o) ≡ 0 → o .role ≤ 2
-unfolding test1
-role-passed o z =
-    let other : Bool = not (sizesAllowed o) || ltb 1 (o .ordered) in
-    ltb-false 2 (o .role) (neither other (ltb 2 (o .role)) (fails (other || ltb 2 (o .role)) 6 z) .1)
 
 -- test 7: an image that passes the header test is CLEAN or DIRTY
 not-invalidated : (o : Options) (image : List ℕ) → headerTest o image ≡ 0 → value image F.state ≡ INVALIDATED → ⊥

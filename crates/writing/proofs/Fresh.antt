@@ -17,7 +17,7 @@ use Rattle.header.specs.HeaderTest.{test1, headerTest}
 use Rattle.header.specs.Open.{userFields, noFields}
 use Rattle.header.specs.Sizes.{totalSize}
 use Rattle.header.proofs.Allowed.{Allowed, allowed, offset-fits}
-use Rattle.header.proofs.PassedTests.{allowed-passed}
+use Rattle.header.proofs.PassedTests.{allowed-passed, ordered-passed}
 use Rattle.header.proofs.SizeLaws.{slot-size-limit, bucket-count-high}
 use Rattle.writing.specs.Write.{withFields}
 use Rattle.writing.specs.Create.{freshFields, fresh}
@@ -29,14 +29,14 @@ use Rattle.writing.proofs.Tests.{header-by-state}
 use Rattle.writing.proofs.Became.{fields-are-bytes, sealed-is-bytes}
 use Rattle.writing.proofs.Zeros.{word-zeros, part-zeros}
 use Rattle.writing.proofs.FreshTests.{fresh-holds}
-use Rattle.writing.proofs.Making.{total-low, ordered-passed}
+use Rattle.writing.proofs.Making.{total-low}
 
--- a fresh header is written on zeros
+-- the header is written on zeros, and then sealed
 abbrev zeros : Options → List ℕ
 zeros o = replicate (totalSize o) 0
 
-abbrev written : Options → List ℕ
-written o = withFields (zeros o) (freshFields o)
+abbrev unsealed : Options → List ℕ
+unsealed o = withFields (zeros o) (freshFields o)
 
 module _ (o : Options) where
   size : length (zeros o) ≡ totalSize o
@@ -45,11 +45,11 @@ module _ (o : Options) where
   long : 256 ≤ length (zeros o)
   long = omega (arith, size, total-low o)
 
-  same-length : length (written o) ≡ length (zeros o)
+  same-length : length (unsealed o) ≡ length (zeros o)
   same-length = fields-length (freshFields o) (zeros o) long
 
-  written-long : 256 ≤ length (written o)
-  written-long = omega (arith, same-length, long)
+  unsealed-long : 256 ≤ length (unsealed o)
+  unsealed-long = omega (arith, same-length, long)
 
   zero-bytes : (m : ℕ) → bytesIn (zeros o) m ≡ replicate (fieldOf m .width) 0
   unfolding bytesIn
@@ -63,20 +63,20 @@ module _ (o : Options) where
   -- "Writes exactly the total"
   pub fresh-length : length (fresh o) ≡ totalSize o
   unfolding fresh
-  fresh-length = seal-length (written o) written-long ∙ same-length ∙ size
+  fresh-length = seal-length (unsealed o) unsealed-long ∙ same-length ∙ size
 
-  written-bytes : Bytes (written o)
-  written-bytes = fields-are-bytes (freshFields o) (zeros o) (replicate-bytes (totalSize o))
+  unsealed-bytes : Bytes (unsealed o)
+  unsealed-bytes = fields-are-bytes (freshFields o) (zeros o) (replicate-bytes (totalSize o))
 
   pub fresh-bytes : Bytes (fresh o)
   unfolding fresh
-  fresh-bytes = sealed-is-bytes (written o) written-bytes
+  fresh-bytes = sealed-is-bytes (unsealed o) unsealed-bytes
 
   -- everything from byte 256 on is zero
   pub fresh-behind : (at n : ℕ) → 256 ≤ at → at + n ≤ totalSize o → part (fresh o) at n ≡ replicate n 0
   unfolding fresh
   fresh-behind at n low high =
-      seal-behind (written o) written-long at n low
+      seal-behind (unsealed o) unsealed-long at n low
       ∙ fields-behind (freshFields o) (zeros o) long at n low
       ∙ part-zeros (totalSize o) at n high
 
@@ -85,7 +85,7 @@ module _ (o : Options) where
       → bytesIn (fresh o) m ≡ replicate (fieldOf m .width) 0
   unfolding fresh
   unwritten m t crc =
-      seal-bytes (written o) written-long m crc ∙ fields-bytes (freshFields o) (zeros o) long m t ∙ zero-bytes m
+      seal-bytes (unsealed o) unsealed-long m crc ∙ fields-bytes (freshFields o) (zeros o) long m t ∙ zero-bytes m
 
   reserved : bytesIn (fresh o) F.reserved ≡ replicate 64 0
   unfolding freshFields
@@ -93,7 +93,7 @@ module _ (o : Options) where
 
   fresh-crc : value (fresh o) F.header-crc32c ≡ headerCrc (fresh o)
   unfolding fresh
-  fresh-crc = seal-crc (written o) written-long written-bytes
+  fresh-crc = seal-crc (unsealed o) unsealed-long unsealed-bytes
 
   module _ (first : firstOf (test1 o) ≡ 0) (version : Fits F.user-version (o .«user_version»)) where
     sizes : Allowed o
@@ -110,7 +110,7 @@ module _ (o : Options) where
     pub fresh-value : (m : ℕ) → T (apart m F.header-crc32c) → value (fresh o) m ≡ after (freshFields o) m 0
     unfolding fresh
     fresh-value m t =
-        seal-other (written o) written-long m t
+        seal-other (unsealed o) unsealed-long m t
         ∙ fields-value (freshFields o) (zeros o) long fitting m
         ∙ ap (after (freshFields o) m) (zero-value m)
 

@@ -17,7 +17,7 @@ use Rattle.header.specs.HeaderTest.{test1, test2, test3, test4, test5, test6, t
 use Rattle.header.specs.Sizes.{slotSize, bucketCount, bucketsOffset, totalSize}
 use Rattle.header.proofs.Allowed.{allowed}
 use Rattle.header.proofs.Power.{power-of-power}
-use Rattle.header.proofs.PassedTests.{allowed-passed}
+use Rattle.header.proofs.PassedTests.{allowed-passed, ordered-passed}
 use Rattle.header.proofs.SizeLaws.{bucket-count-two}
 use Rattle.writing.specs.Create.{freshFields}
 use Rattle.writing.proofs.OneField.{apart}
@@ -25,7 +25,7 @@ use Rattle.writing.proofs.FieldList.{after}
 use Rattle.writing.proofs.Tests.{Holds}
 use Rattle.writing.proofs.Lasting.{any-role}
 use Rattle.writing.proofs.Zeros.{all-zeros}
-use Rattle.writing.proofs.Making.{total-low, ordered-passed}
+use Rattle.writing.proofs.Making.{total-low}
 
 abbrev offset : Options → ℕ
 offset o = bucketsOffset (o .«slot_capacity») (slotSize (o .«key_size») (o .«index_size»))

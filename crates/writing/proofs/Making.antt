@@ -1,12 +1,12 @@
 -- A fresh image made in a buffer: zeros, the fields of the header, the CRC.
 -- Assumes nothing.
 use Prim.Native.Nat.{ℕ, _≤_, _<_}
-use mathlib.Core.Bool.{Bool, cond, not, _||_}
+use mathlib.Core.Bool.{cond}
 use mathlib.Core.Path.{_≡_, refl, sym, ap, _∙_}
 use mathlib.Core.List.{List, [], _∷_, _++_}
 use native.Mathlib.Nat.{zero-add}
 use native.Mathlib.Omega.{arith}
-use borrow.Author.Tests.{ltb-false, lt-ltb, le-ltb}
+use borrow.Author.Tests.{lt-ltb, le-ltb}
 use lib.Dec.{ltb}
 use lib.ListN.{length, take, drop, replicate, length-replicate}
 use Rattle.numbers.specs.Bytes.{put}
@@ -14,8 +14,7 @@ use Rattle.header.specs.declared.options.Options.{Options}
 use Rattle.header.specs.Answer.{too-short}
 use Rattle.header.specs.FirstOf.{firstOf}
 use Rattle.header.specs.HeaderTest.{test1}
-use Rattle.header.specs.Sizes.{sizesAllowed, totalSize}
-use Rattle.header.proofs.Firsts.{fails, neither}
+use Rattle.header.specs.Sizes.{totalSize}
 use Rattle.writing.specs.Write.{withFields, sealed}
 use Rattle.writing.specs.Create.{createTests, freshFields, fresh, createOf}
 use Rattle.writing.proofs.Answers.{says-refused, says-accepted}
@@ -27,13 +26,6 @@ use Rattle.writing.proofs.Tests.{past}
 pub total-low : (o : Options) → 256 ≤ totalSize o
 unfolding totalSize
 total-low o = omega arith
-
--- "ordered above 1": not this
-pub ordered-passed : (o : Options) → firstOf (test1 o) ≡ 0 → o .ordered ≤ 1
-unfolding test1
-ordered-passed o z =
-    let n : Bool = not (sizesAllowed o) in
-    ltb-false 1 (o .ordered) (neither n (ltb 1 (o .ordered)) (neither (n || ltb 1 (o .ordered)) (ltb 2 (o .role)) (fails (n || ltb 1 (o .ordered) || ltb 2 (o .role)) 6 z) .0) .1)
 
 -- zeros put at the start
 cleared : (n : ℕ) (s : List ℕ) → put s 0 (replicate n 0) ≡ replicate n 0 ++ drop n s

@@ -23,10 +23,10 @@ use Rattle.header.proofs.Stages.{staged, fitting}
 pub past : (xs ys : List (Bool × ℕ)) → T (named xs) → firstOf xs ≡ 0 → firstOf (xs ++ ys) ≡ firstOf ys
 past xs ys t z = sym (first-after xs ys t {m = firstOf xs} {n = firstOf ys} refl z refl)
 
--- tests of one number behind a list may stand for each other
-behind : (xs ys zs : List (Bool × ℕ)) → firstOf ys ≡ firstOf zs → firstOf (xs ++ ys) ≡ firstOf (xs ++ zs)
+-- where it gives none, tests of one number may stand for each other
+pub behind : (xs ys zs : List (Bool × ℕ)) → (firstOf xs ≡ 0 → firstOf ys ≡ firstOf zs) → firstOf (xs ++ ys) ≡ firstOf (xs ++ zs)
 unfolding firstOf
-behind [] ys zs e = e
+behind [] ys zs e = e refl
 behind ((true, n) ∷ xs) ys zs e = refl
 behind ((false, n) ∷ xs) ys zs e = behind xs ys zs e
 
@@ -81,7 +81,7 @@ module _ (o : Options) (image : List ℕ) where
       ∙ past (test5 image) _ tt (h .fifth)
       ∙ past (test6 image) _ tt (h .sixth)
       ∙ behind (test7 image) (fitting o image) (test12 o image)
-      (past (test8 o image) _ tt (h .eighth) ∙ past (test9 o image) _ tt (h .ninth) ∙ past (test10 image) _ tt (h .tenth) ∙ past (test11 image) _ tt (h .eleventh))
+      (λ z. past (test8 o image) _ tt (h .eighth) ∙ past (test9 o image) _ tt (h .ninth) ∙ past (test10 image) _ tt (h .tenth) ∙ past (test11 image) _ tt (h .eleventh))
 
   pub header-holds : headerTest o image ≡ 0 → Holds
   unfolding test1 test2 test3 test4 test5 test6 test7 test8 test9 test10 test11

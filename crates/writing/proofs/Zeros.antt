@@ -1,12 +1,11 @@
--- Parts of zeros, and of a list with others behind it.
+-- Zeros: as a word, as bytes that are all zero, and their parts.
 -- Assumes nothing.
 use Prim.Native.Nat.{ℕ, zero, suc, _+_, _≤_, _<_}
 use mathlib.Core.Bool.{true}
 use mathlib.Core.Path.{_≡_, refl, sym, _∙_}
-use mathlib.Core.List.{List, _++_}
 use native.Mathlib.Omega.{arith}
-use lib.ListN.{length, getD, drop, length-drop, replicate, length-replicate, getD-replicate}
-use lib.Seq.{take-append-le, drop-append-le, ext-getD}
+use lib.ListN.{length, getD, replicate, length-replicate, getD-replicate}
+use lib.Seq.{ext-getD}
 use Rattle.numbers.specs.Bytes.{part, word, allZero}
 use Rattle.numbers.proofs.Put.{length-part}
 use Rattle.numbers.proofs.PutPart.{getD-part}
@@ -20,11 +19,6 @@ pub all-zeros : (n : ℕ) → allZero (replicate n 0) ≡ true
 unfolding allZero
 all-zeros zero = refl
 all-zeros (suc n) = all-zeros n
-
-pub part-append : (a b : List ℕ) (at n : ℕ) → at + n ≤ length a → part (a ++ b) at n ≡ part a at n
-unfolding part
-part-append a b at n h =
-    rw (drop-append-le at a b (omega arith), take-append-le n (drop at a) b (rw length-drop (omega arith))) refl
 
 pub part-zeros : (total at n : ℕ) → at + n ≤ total → part (replicate total 0) at n ≡ replicate n 0
 part-zeros total at n h =

@@ -45,7 +45,7 @@ module _ (layout : Layout) (image : List ℕ) (fit : LaidOut layout image) (at :
 
     pub slot-put-around : Around image (put image at bs)
     unfolding slotAt
-    slot-put-around = put-around layout image fit at bs (omega arith) (omega (arith, in-slots))
+    slot-put-around = put-around image at bs (omega arith) fits-slots
 
     pub slot-put-slot : (m : ℕ) → (m ≡ n → ⊥) → SameSlot layout image (put image at bs) m
     slot-put-slot m other =
@@ -66,7 +66,7 @@ module _ (layout : Layout) (image : List ℕ) (fit : LaidOut layout image) (at :
 
     pub bucket-put-around : Around image (put image at bs)
     unfolding bucketsOffset
-    bucket-put-around = put-around layout image fit at bs (omega (arith, in-buckets .0, fit .offset)) (in-buckets .1)
+    bucket-put-around = put-around image at bs (omega (arith, in-buckets .0, fit .offset)) fits-buckets
 
     pub bucket-put-slot : (n : ℕ) → n < layout .«slot_capacity» → SameSlot layout image (put image at bs) n
     bucket-put-slot n l =

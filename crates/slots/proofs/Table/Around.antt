@@ -1,6 +1,6 @@
 -- What a write of slots and buckets leaves alone.
 -- Assumes nothing.
-use Prim.Native.Nat.{ℕ, _+_, _*_, _≤_}
+use Prim.Native.Nat.{ℕ, _+_, _≤_}
 use mathlib.Core.Path.{_≡_, refl, ap, ap₂, _∙_}
 use mathlib.Core.List.{List}
 use native.Mathlib.Omega.{arith}
@@ -82,7 +82,7 @@ module _ (layout : Layout) (image image′ : List ℕ) where
       ap₂ (λ (x y : List ℕ). bucketFrom (word x) (word y))
       (h .parts (bucketAt layout b) 8 (omega arith) (omega arith)) (h .parts (bucketAt layout b + 8) 8 (omega arith) (omega arith))
 
--- Around the slots and buckets all is as it was: the header before them, and that the image ends with them.
+-- Around the slots and buckets all is as it was: the header, and the length.
 pub record Around (image image′ : List ℕ) : Type 0 where
   pub size : length image′ ≡ length image
   pub header : (a n : ℕ) → a + n ≤ 256 → part image′ a n ≡ part image a n
@@ -123,9 +123,7 @@ around-laid k fit =
 pub around-shaped : {s : Shape} {image image′ : List ℕ} → Around image image′ → Shaped s image → Shaped s image′
 around-shaped k fit = record { laid = around-laid k (fit .laid); counters = fit .counters; highwater = fit .highwater }
 
-module _ (layout : Layout) (image : List ℕ) (fit : LaidOut layout image) (at : ℕ) (bs : List ℕ) where
-  -- a put into the slots and buckets
-  pub put-around : 256 ≤ at → at + length bs ≤ layout .«buckets_offset» + 16 * layout .«bucket_count» → Around image (put image at bs)
-  put-around low high =
-      let fits : at + length bs ≤ length image = omega (arith, fit .size) in
-      record { size = length-put image at bs fits; header = λ a n l. part-put-before image at bs fits a n (omega arith) }
+-- a put behind the header
+pub put-around : (image : List ℕ) (at : ℕ) (bs : List ℕ) → 256 ≤ at → at + length bs ≤ length image → Around image (put image at bs)
+put-around image at bs low fits =
+    record { size = length-put image at bs fits; header = λ a n l. part-put-before image at bs fits a n (omega arith) }

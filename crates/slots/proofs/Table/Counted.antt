@@ -67,7 +67,7 @@ module _ (s : Shape) (image : List ℕ) (fit : Shaped s image) where
   counted-length = seal-length (withFields image counters) long′ ∙ size
 
   -- all bytes behind the header stay
-  pub counted-behind : (a n : ℕ) → 256 ≤ a → part (counted s image) a n ≡ part image a n
+  counted-behind : (a n : ℕ) → 256 ≤ a → part (counted s image) a n ≡ part image a n
   unfolding counted published
   counted-behind a n l = seal-behind (withFields image counters) long′ a n l ∙ fields-behind counters image long a n l
 

@@ -7,12 +7,13 @@ use native.Mathlib.Nat.{add-zero, add-assoc, mod-lt, mod-eq-of-lt}
 use native.Mathlib.Omega.{arith}
 use lib.Bits.{bitXor}
 use lib.Dec.{lit<}
-use lib.ListN.{length, getD, replicate, length-replicate, getD-replicate}
+use lib.ListN.{length, getD, replicate}
 use lib.Seq.{ext-getD, take-all}
 use Rattle.numbers.specs.Bytes.{part, word, bytesOf, put}
 use Rattle.numbers.proofs.Put.{length-part}
 use Rattle.numbers.proofs.PutPart.{getD-part, part-put-in, length-bytes, word-bytes}
 use Rattle.digests.specs.Fnv.{fnvFrom, fnv1a64}
+use Rattle.writing.proofs.Zeros.{part-zeros}
 
 -- a part of a part is a part
 pub part-part : (s : List ℕ) (a n j m : ℕ) → a + n ≤ length s → j + m ≤ n → part (part s a n) j m ≡ part s (a + j) m
@@ -25,16 +26,6 @@ part-part s a n j m fits l =
     each : (i : ℕ) → i < m → getD (part (part s a n) j m) i 0 ≡ getD (part s (a + j) m) i 0
     each i h =
         getD-part (part s a n) j m i h ∙ getD-part s a n (j + i) (omega arith) ∙ ap (λ (x : ℕ). getD s x 0) (sym (add-assoc a j i)) ∙ sym (getD-part s (a + j) m i h)
-
--- a part of zeros is zeros
-part-zeros : (n j m : ℕ) → j + m ≤ n → part (replicate n 0) j m ≡ replicate m 0
-part-zeros n j m l =
-    let whole : length {A = ℕ} (replicate n 0) ≡ n = length-replicate n 0 in
-    let inner : length (part (replicate n 0) j m) ≡ m = length-part (replicate n 0) j m (omega arith) in
-    ext-getD 0 (part (replicate n 0) j m) (replicate m 0) (inner ∙ sym (length-replicate m 0)) (λ i h. each i (omega arith))
-  where
-    each : (i : ℕ) → i < m → getD (part (replicate n 0) j m) i 0 ≡ getD (replicate m 0) i 0
-    each i h = getD-part (replicate n 0) j m i h ∙ getD-replicate n (j + i) 0 0 (omega arith) ∙ sym (getD-replicate m i 0 0 h)
 
 -- a word of zeros is 0
 pub word-zeros : (n j : ℕ) → j + 8 ≤ n → word (part (replicate n 0) j 8) ≡ 0

@@ -59,8 +59,7 @@ module _ (s : Shape) (image : List ℕ) (fit : Shaped s image) where
   unfolding rebuiltTo bucketsOffset change.rebuiltTo tableOf
   built-none =
       record {
-        around =
-            put-around (s .layout) image (fit .laid) (s .layout .«buckets_offset») zeros (omega (arith, fit .laid .offset)) (omega (arith, length-replicate {A = ℕ} (16 * s .layout .«bucket_count») 0));
+        around = put-around image (s .layout .«buckets_offset») zeros (omega (arith, fit .laid .offset)) fits;
         slots = empty-slots;
         table =
             agree-clip (tableOf s empty) (change.rebuiltTo (tableOf s image) 0) refl refl refl empty-bucket

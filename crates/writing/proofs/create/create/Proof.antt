@@ -4,9 +4,9 @@ use denote.Ref.{now}
 use mathlib.Core.Path.{sym, _∙_}
 use native.Mathlib.Omega.{arith}
 use Rattle.header.proofs.Firsts.{first-stops}
-use Rattle.header.proofs.PassedTests.{allowed-passed}
+use Rattle.header.proofs.PassedTests.{allowed-passed, ordered-passed}
 use Rattle.writing.specs.Create.{createTests}
-use Rattle.writing.proofs.Making.{total-low, ordered-passed, short, enough, created-not, created}
+use Rattle.writing.proofs.Making.{total-low, short, enough, created-not, created}
 use borrow.Author.Needs.{needs}
 use Rattle.writing.proofs.create.create.Statement.{statement}
 use Rattle.writing.proofs.create.create.Tie as tie
