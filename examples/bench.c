@@ -106,17 +106,15 @@ static void require_done(uint32_t answer, const char *path)
         exit(answered(answer, path));
 }
 
-/* What is wrong with a file, beside what its answer says: its length, where it needs a rebuild, and its checksum. */
+/* What is wrong with a file beside what its answer says: its length, where it is to be rebuilt, and its checksum. */
 static void warn_of(const struct store_image *image, const char *path)
 {
-    uint64_t size = slc1_total_size(SLC1_OPTIONS(&image->options));
-    bool damaged = slc1_open_check(STORE_LENT(image)) == SLC1_NEEDS_REBUILD;
+    uint32_t answer = slc1_open_check(STORE_LENT(image));
+    int order = answer == SLC1_NEEDS_REBUILD || answer == SLC1_INVALIDATED ? store_length_order(image) : 0;
 
-    if (damaged && store_length(image) > 0)
-        fprintf(stderr, "bench: %s is longer than the %" PRIu64 " bytes of its image: something else stands behind it\n", path,
-                size);
-    if (damaged && store_length(image) < 0)
-        fprintf(stderr, "bench: %s is shorter than the %" PRIu64 " bytes of its image: its end is missing\n", path, size);
+    if (order != 0)
+        fprintf(stderr, "bench: %s is %s than a cache, which has exactly %" PRIu64 " bytes\n", path,
+                order > 0 ? "longer" : "shorter", slc1_total_size(SLC1_OPTIONS(&image->options)));
     if (image->checksum == STORE_NO_MARK)
         fprintf(stderr, "bench: %s has no checksum, a changed gain would not be noticed: load or rebuild adds one\n", path);
     if (image->checksum == STORE_WRONG)

@@ -62,7 +62,7 @@ static uint32_t new_image(struct store_image *image, const slc1_options *options
     return image->bytes == NULL ? STORE_FAILED : SLC1_DONE;
 }
 
-int store_length(const struct store_image *image)
+int store_length_order(const struct store_image *image)
 {
     return (image->length > size_of(image)) - (image->length < size_of(image));
 }

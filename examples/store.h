@@ -57,19 +57,20 @@ enum {
     STORE_WRONG = 3      /* bytes have changed since they were written */
 };
 
-/* A private copy of a file's image, for any call that reads: slc1_full_check(STORE_LENT(&image)). It is lent as long as the
- * file is, so that the library refuses a file of another length than its image's. */
+/* A private copy of what a file holds, for any call that reads: slc1_full_check(STORE_LENT(&image)). A file that is longer than
+ * an image is copied with one byte more than that has, and so refused by the library as a shorter one is. */
 struct store_image {
     uint8_t *bytes;
-    size_t length; /* of a longer file, one byte more than its image has */
+    size_t length;
     slc1_options options; /* with the role that is true of these bytes */
     int checksum;
 };
 
 #define STORE_LENT(image) (image)->bytes, (image)->length, SLC1_OPTIONS(&(image)->options)
 
-/* How long the file is beside its image: -1 shorter, 0 exactly as long, 1 longer. */
-int store_length(const struct store_image *image);
+/* How the file that was copied stands against an image of its options: -1 shorter, 0 exactly as long, 1 longer. -1 where
+ * nothing was copied. */
+int store_length_order(const struct store_image *image);
 
 /* A reader of a file. The host may read the image; the rest is the store's. */
 struct store_reader {
@@ -89,8 +90,8 @@ enum { STORE_VERIFY = 1 };
  * and keeps the path until then. SLC1_INVALID_INPUT where the options are out of range. */
 uint32_t store_open_reader(struct store_reader *reader, const char *path, const slc1_options *options, int flags);
 
-/* Copies what the file holds at one moment. A copy that is CLEAN is kept where the file still has the same length and header. The
- * answer is that of slc1_open_check, or SLC1_NEEDS_REBUILD where the checksum is wrong; SLC1_BUSY where writers leave no
+/* Copies what the file holds at one moment. A copy that is CLEAN is kept where the file still has the same length and header.
+ * The answer is that of slc1_open_check, or SLC1_NEEDS_REBUILD where the checksum is wrong; SLC1_BUSY where writers leave no
  * such moment for a quarter of a second. From STORE_FAILED on the image is an earlier copy, or of length 0. */
 uint32_t store_read(struct store_reader *reader);
 

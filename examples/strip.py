@@ -37,9 +37,11 @@ def buckets_in(image):
     (count,), (offset,) = unpack_from("<Q", image, 0x48), unpack_from("<Q", image, 0x68)
     if count < 2 or count & (count - 1):
         return f"is no sound SLC1 image: its bucket_count is {count}, and that is no power of two from 2 on"
-    if len(image) < offset + 16 * count:
-        return f"is too short: its {count:,} buckets end at {offset + 16 * count:,}, and it has {len(image):,} bytes"
-    return list(iter_unpack("<QQ", image[offset:offset + 16 * count]))
+    end = offset + 16 * count
+    if len(image) != end:
+        length = "short" if len(image) < end else "long"
+        return f"is too {length}: its {count:,} buckets end at {end:,}, and it has {len(image):,} bytes"
+    return list(iter_unpack("<QQ", image[offset:end]))
 
 
 def kind_of(number, bucket, count):

@@ -81,8 +81,8 @@ typedef struct slc1_options {
 
 /* Sizes and places. 0 where the options are out of range, or slot is not below slot_capacity. */
 
-/* The number of bytes of an image. Exactly these are lent: an image that is longer or shorter by one byte is answered 1. A host
- * that reads or maps whole pages lends the length of the file. */
+/* The number of bytes of an image. Exactly so many are lent: one that is longer or shorter, even by a byte, is refused, with 1
+ * where nothing before its length is wrong. A host that reads or maps whole pages lends the file's length, not theirs. */
 uint64_t slc1_total_size(SLC1_SIX_NUMBERS);
 
 /* Where in the image the key_size bytes of a slot's key begin. */

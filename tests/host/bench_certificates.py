@@ -6,7 +6,7 @@ import second
 from bench_tools import (
     COUNTS, HEADING, LOADED, NEW, OLD, RANDOM, ROOT, SENTENCES, Certificate, certificates_in, holds, read, rows, same, says,
     there, write, write_certificates)
-from bench_wanted import NEW_IMAGE, changed, flipped, fresh, listed, loaded, pairs, reads, stored
+from bench_wanted import NEW_IMAGE, changed, flipped, fresh, listed, loaded, pairs, reads, rebuilt, stored
 
 LOWEST, HIGHEST = -2**63, 2**63 - 1
 SERIAL = "CM1-2444-044"
@@ -262,7 +262,7 @@ def filling(bench):
     same("load", bench.silent("load", "full", write_certificates("more.csv", MORE[:212])),
          "212 certificates loaded, 512 live\n")
     same("list", bench.silent("list", "full"), rows(NEW + MORE[:212]))
-    same("rebuild", bench.done("rebuild", "anew", write_certificates("more.csv", NEW + MORE[:212] + MORE[:3])),
+    same("rebuild", rebuilt(bench, "anew", write_certificates("more.csv", NEW + MORE[:212] + MORE[:3])),
          "anew rebuilt: 512 certificates\n")
 
 

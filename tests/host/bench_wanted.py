@@ -142,11 +142,11 @@ def wanted(image, role, command, *words):
     return WANTED[command](image, OPTIONS._replace(role=role), *words)
 
 
-def length_said(image, role):
-    """What is said of the length of an image, where it needs a rebuild."""
-    if second.header_test(image, OPTIONS._replace(role=role)) != 1 or len(image) == TOTAL:
-        return None
-    return "is longer than the 45312 bytes" if len(image) > TOTAL else "is shorter than the 45312 bytes"
+def length_said(image, role=0):
+    """What is said of the length of an image, where it is to be rebuilt: nothing, or a line."""
+    if second.header_test(image, OPTIONS._replace(role=role)) not in (1, 3) or len(image) == TOTAL:
+        return []
+    return [f"is {'longer' if len(image) > TOTAL else 'shorter'} than a cache, which has exactly {TOTAL} bytes\n"]
 
 
 def agrees(ran, image, role, command, *words):
@@ -157,8 +157,8 @@ def agrees(ran, image, role, command, *words):
     word = checksum(image, role)
     says(ran, sentence, ADVICE.get(answer, ""), "checksum" if word == WRONG else "",
          "no checksum" if word == NONE and command != "check" else "")
-    same(f"{command} {words}: {ran.err}", re.findall("is (?:longer|shorter) than the [0-9]+ bytes", ran.err),
-         list(filter(None, [length_said(image, role)])))
+    same(f"{command} {words}: {ran.err}", re.findall(r"is (?:longer|shorter) than a cache.*\n", ran.err),
+         length_said(image, role))
     holds(f"{command} of what is right: {ran.err}", answer or word == NONE or ran.err == "")
 
 
@@ -166,6 +166,14 @@ def reads(bench, name, command, *words):
     ran = bench.run(command, name, *words)
     agrees(ran, read(name), 0, command, *words)
     return ran
+
+
+def rebuilt(bench, name, certificates):
+    """What a rebuild prints that succeeds, and complains of nothing but the file's length."""
+    before = read(name)
+    ran = bench.run("rebuild", name, certificates)
+    same(f"rebuild of {name}", (ran.status, ran.err), (0, "".join(f"bench: {name} {line}" for line in length_said(before))))
+    return ran.out
 
 
 def pairs(out):

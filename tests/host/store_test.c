@@ -155,29 +155,31 @@ static void update_after_a_rebuild(void)
 /* A file that is shorter or longer than its image is not read or changed, and a rebuild makes it exactly as long. */
 static void lengths(void)
 {
-    static const struct {
-        int difference, said;
-    } TRIES[] = {{-1, -1}, {-100, -1}, {1, 1}, {8, 1}, {1000, 1}};
+    enum { MOST = 1000 };
+    static const int DIFFERENCES[] = {-1, -100, 1, 8, MOST};
     struct store_reader reader;
     struct store_writer writer;
     struct bytes whole, other;
 
     same(SLC1_DONE, store_create("length", &SMALL));
     whole = contents("length");
-    other.bytes = calloc(1, whole.length + 1000);
+    other.bytes = calloc(1, whole.length + MOST);
+    holds(other.bytes != NULL);
     memcpy(other.bytes, whole.bytes, whole.length);
-    for (size_t i = 0; i < COUNT(TRIES); i++) {
+    for (size_t i = 0; i < COUNT(DIFFERENCES); i++) {
+        int order = DIFFERENCES[i] > 0 ? 1 : -1;
+
         write_file("length", whole.bytes, whole.length);
         same(SLC1_DONE, store_open_reader(&reader, "length", &SMALL, 0));
         same(SLC1_DONE, store_read(&reader));
-        same(0, store_length(&reader.image));
-        other.length = whole.length + (size_t)TRIES[i].difference;
+        same(0, store_length_order(&reader.image));
+        other.length = whole.length + (size_t)DIFFERENCES[i];
         write_file("length", other.bytes, other.length);
         same(SLC1_NEEDS_REBUILD, store_read(&reader)); /* though the header is the same */
-        holds(store_length(&reader.image) == TRIES[i].said);
+        holds(store_length_order(&reader.image) == order);
         store_close_reader(&reader);
         same(SLC1_DONE, store_open_writer(&writer, "length", &SMALL));
-        holds(store_length(&writer.image) == TRIES[i].said);
+        holds(store_length_order(&writer.image) == order);
         same(SLC1_NEEDS_REBUILD, store_judge(&writer));
         store_close_writer(&writer);
         same(SLC1_NEEDS_REBUILD, update("length", &SMALL, 3, 1));

@@ -213,8 +213,8 @@ def commits(comparison):
 
 
 def lengths(comparison):
-    """Every call on an image that its end is missing from, that is whole, that a byte or a word stands behind, or half of another or
-    all of it; as its writer left it, or damaged."""
+    """Every call on images with a byte less than the total, with the total, and with a byte, a word, half of another image or all
+    of it behind them; sound and damaged."""
     for _ in range(150):
         o = comparison.images.options()
         total, another = second.total_size(o), comparison.images.history(o)

@@ -35,8 +35,8 @@ fn opened(label: &[u8], image: &[u8]) {
     print::decimal(label, answer as u64);
 }
 
-// "Length 45,311 is 1; 45,312 opens." And "a length other than the total is 1" (CR 8): create takes a longer buffer, but all of it
-// is no image.
+// "Length 45,311 is 1; 45,312 opens." And "a length other than the total is 1" (CR 8): create takes a longer buffer, but all
+// of it is no image.
 pub fn lengths() {
     let mut buffer = [0u8; 45313];
     create(&mut buffer, large());
