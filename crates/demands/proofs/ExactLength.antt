@@ -48,7 +48,7 @@ use Rattle.demands.proofs.Created.{create-allowed, create-left, fresh-i
 use Rattle.demands.proofs.Demand1.{demand1}
 use Rattle.demands.proofs.HistoryInvariant.{writer-header, held}
 
--- where the tests before the tenth pass and the offset is right, the total that the header gives is that of the options
+-- where tests 8 and 9 pass and the offset is right, the total that the header gives is that of the options
 ends : (o : Options) (image : List ℕ) → firstOf (test8 o image) ≡ 0 → firstOf (test9 o image) ≡ 0
     → value image F.buckets-offset ≡ bucketsOffset (value image F.slot-capacity) (value image F.slot-size)
     → value image F.buckets-offset + 16 * value image F.bucket-count ≡ totalSize o
@@ -178,8 +178,7 @@ module _ (o : Options) (image : List ℕ) (n : ℕ) (z : headerTest o image ≡ 
 
   second-holds : n < 256 → needs-rebuild ≡ firstOf (test2 short)
   unfolding test2 firstOf
-  second-holds l =
-      rw (short-length, ne-eqb n 0 (λ e. omega arith), lt-ltb n 256 l) refl
+  second-holds l = rw (short-length, ne-eqb n 0 (λ e. omega arith), lt-ltb n 256 l) refl
 
   cut : headerTest o short ≡ needs-rebuild
   unfolding test1
