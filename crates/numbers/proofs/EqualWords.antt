@@ -52,6 +52,9 @@ left f behind a b m e =
     ap₂ f (sym (take-append-drop m a)) (sym (take-append-drop m b) ∙ ap (λ (l : List ℕ). l ++ drop m b) (sym e))
     ∙ behind (take m a) (drop m a) (drop m b)
 
+pub below-past : (a b : List ℕ) (m : ℕ) → take m a ≡ take m b → below a b ≡ below (drop m a) (drop m b)
+below-past = left below below-behind
+
 -- lists whose first n bytes are different words are not the same
 same-not : (n : ℕ) (xs ys : List ℕ) → (word (take n xs) ≡ word (take n ys) → ⊥) → same xs ys ≡ false
 unfolding same word
@@ -71,7 +74,7 @@ module _ {a b : List ℕ} {n : ℕ} (words : EqualWords a b n) where
   same-left = left same same-behind a b (8 * n) (words .alike)
 
   pub below-left : below a b ≡ below (drop (8 * n) a) (drop (8 * n) b)
-  below-left = left below below-behind a b (8 * n) (words .alike)
+  below-left = below-past a b (8 * n) (words .alike)
 
   -- a further word in both is a difference
   pub same-differ : 8 * n + 8 ≤ length a → 8 * n + 8 ≤ length b → same a b ≡ false

@@ -3,6 +3,7 @@ pub mod Order
 pub mod Round
 pub mod Counting
 pub mod Reading
+pub mod Stop
 pub mod Checks
 pub mod Change
 pub mod Place

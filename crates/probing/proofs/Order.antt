@@ -9,7 +9,7 @@ use native.Mathlib.Omega.{arith}
 use lib.Dec.{eqb, ltb}
 use borrow.Author.Tests.{ltb-true, ltb-false, eqb-true, lt-ltb, le-ltb, eq-eqb}
 use Rattle.numbers.specs.Bytes.{below}
-use Rattle.probing.proofs.Keys.{either, or-either, and-both, left-or, right-or, both-and, not-both}
+use Rattle.probing.proofs.Keys.{either, or-either, and-both, left-or, right-or, both-and, not-both, not-true-false}
 
 -- of two numbers the first is below the second, or not
 pub lower-or-not : (a b : ℕ) → (a < b) ⊎ (b ≤ a)
@@ -73,3 +73,12 @@ below-either xs ys ne = go (below-or xs ys)
     go (inl e) = inl e
     go (inr (inl e)) = inr e
     go (inr (inr e)) = absurd (ne e)
+
+-- what does not come before what does not come before does not come before
+pub below-back : (xs ys zs : List ℕ) → below xs ys ≡ false → below ys zs ≡ false → below xs zs ≡ false
+below-back xs ys zs a b = not-true-false _ (λ e. go e (below-or ys zs))
+  where
+    go : below xs zs ≡ true → (below ys zs ≡ true) ⊎ (below zs ys ≡ true) ⊎ (ys ≡ zs) → ⊥
+    go e (inl p) = not-both p b
+    go e (inr (inl p)) = not-both (below-trans xs zs ys e p) a
+    go e (inr (inr p)) = not-both (rw p e) a

@@ -36,7 +36,7 @@ examine-broken t k c onward (FULL h s) full e =
     go false e = (λ q. clash cc, e)
 
 -- what a probe ends in where it is not broken
-answers : (p : Probed) → (p ≡ broken → ⊥) → ((s : ℕ) × (n : ℕ) × (p ≡ found s n)) ⊎ ((n : ℕ) × (p ≡ absent n))
+pub answers : (p : Probed) → (p ≡ broken → ⊥) → ((s : ℕ) × (n : ℕ) × (p ≡ found s n)) ⊎ ((n : ℕ) × (p ≡ absent n))
 answers (found s n) h = inl (s, n, refl)
 answers (absent n) h = inr (n, refl)
 answers broken h = absurd (h refl)

@@ -31,11 +31,11 @@ pub record Rebuilt (t t′ : Table) : Type 0 where
   pub order : neverFall t′ ≡ neverFall t
 
 -- the table with other buckets
-abbrev over : Table → (ℕ → Bucket) → Table
+abbrev pub over : Table → (ℕ → Bucket) → Table
 over t f = record { B = t .B; highwater = t .highwater; bucket = f; meta = t .meta; key = t .key; hash = t .hash }
 
 -- rebuilding changes the buckets alone
-rebuilt-over : (t : Table) (n : ℕ) → rebuiltTo t n ≡ over t (rebuiltTo t n .bucket)
+pub rebuilt-over : (t : Table) (n : ℕ) → rebuiltTo t n ≡ over t (rebuiltTo t n .bucket)
 unfolding rebuiltTo placed
 rebuilt-over t zero = refl
 rebuilt-over t (suc n) = go (live t n) (rebuilt-over t n)
@@ -45,10 +45,10 @@ rebuilt-over t (suc n) = go (live t n) (rebuilt-over t n)
     go false e = e
 
 -- The buckets f are a sound index over the slots of t below n, with a FULL bucket for each live one and no TOMBSTONE.
-record Built (t : Table) (n : ℕ) (f : ℕ → Bucket) : Type 0 where
-  sound : Sound (upTo (over t f) n)
-  fulls : fullCount (over t f) ≡ countTo n (live t)
-  tombstones : tombstoneCount (over t f) ≡ 0
+pub record Built (t : Table) (n : ℕ) (f : ℕ → Bucket) : Type 0 where
+  pub sound : Sound (upTo (over t f) n)
+  pub fulls : fullCount (over t f) ≡ countTo n (live t)
+  pub tombstones : tombstoneCount (over t f) ≡ 0
 
 -- the buckets all EMPTY
 built-none : (t : Table) → 0 < t .B → Built t 0 (λ b. EMPTY)
@@ -118,7 +118,7 @@ module _ (t : Table) (room : liveCount t < t .B)
   unlike n l alive s less m e = omega (arith, different s n (omega arith) l m alive e)
 
   -- slot by slot
-  built : (n : ℕ) → n ≤ t .highwater → Built t n (rebuiltTo t n .bucket)
+  pub built : (n : ℕ) → n ≤ t .highwater → Built t n (rebuiltTo t n .bucket)
   unfolding rebuiltTo
   built zero l = built-none t (omega arith)
   built (suc n) l = rw add-one at (go (live t n) refl (built n (omega arith)))
