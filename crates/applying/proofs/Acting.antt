@@ -2,7 +2,7 @@
 -- Assumes nothing.
 use Prim.Native.Nat.{ℕ, _+_, _*_, _-_, _%_, _≤_, _<_}
 use mathlib.Core.Path.{_≡_, refl, ap, _∙_}
-use mathlib.Core.Bool.{Bool, true, false, cond, _&&_}
+use mathlib.Core.Bool.{Bool, true, false, not, _&&_}
 use mathlib.Core.List.{List}
 use native.Mathlib.Omega.{arith}
 use borrow.Author.Tests.{eq-eqb, ne-eqb, lt-ltb, le-ltb}
@@ -41,22 +41,14 @@ module _ (s : Shape) (image : List ℕ) where
       (omega (arith, run .last .below, fit .highwater), run .some, run .bounded)
 
   module _ (new : ℕ → Bool) (batch : List ℕ) (i : ℕ) where
-    -- a record whose turn comes later, one that decides, and one that does not
-    pub acts-later : new i ≡ true → image ≡ acted s new batch i image
-    unfolding acted
-    acts-later e = rw e (never _ (decides (s .layout) batch i))
-      where
-        never : (x : List ℕ) (b : Bool) → image ≡ cond (b && false) x image
-        never x true = refl
-        never x false = refl
-
+    -- a record acts where it decides and its turn is not a later one, and does nothing elsewhere
     pub acts :
-        new i ≡ false → decides (s .layout) batch i ≡ true → (r : List ℕ) → r ≡ recordAt (s .layout) batch i
+        decides (s .layout) batch i && not (new i) ≡ true → (r : List ℕ) → r ≡ recordAt (s .layout) batch i
         → onLive s image r (probeOf s image (keyIn (s .layout) r)) ≡ acted s new batch i image
     unfolding acted recordKey
-    acts n e r q = rw (e, n, q)
+    acts e r q = rw (e, q)
 
-    pub acts-not : decides (s .layout) batch i ≡ false → image ≡ acted s new batch i image
+    pub acts-not : decides (s .layout) batch i && not (new i) ≡ false → image ≡ acted s new batch i image
     unfolding acted
     acts-not e = rw e
 

@@ -5,16 +5,15 @@ use mathlib.Core.Path.{_≡_, refl, ap, _∙_}
 use mathlib.Core.Bool.{Bool}
 use mathlib.Core.List.{List}
 use native.Mathlib.Omega.{arith}
-use Rattle.probing.proofs.Counting.{count-le}
+use lib.ListN.{getD}
 use Rattle.header.specs.declared.shape.Shape.{Shape}
 use Rattle.image.specs.Lookup.{isLive}
 use Rattle.batch.specs.Batch.{recordCount}
-use Rattle.batch.specs.NewKeys.{isNew, newCount}
-use Rattle.batch.specs.Marks.{Marked, isMarked, markedAt}
+use Rattle.batch.specs.Notes.{newBy}
 use Rattle.header.specs.Counters.{withSlots}
 use Rattle.applying.specs.Apply.{acted, actedTo, afterLive, afterNew, settled, committed}
-use Rattle.applying.specs.Prepared.{oneAppended, appendedTo}
-use Rattle.batch.proofs.Marks.{marked-new, marked-is-new}
+use Rattle.applying.specs.Prepared.{Prepared, oneAppended, appendedTo}
+use Rattle.batch.proofs.Turning.{turn-new}
 use Rattle.batch.proofs.NewRanks.{new-at}
 
 -- tests of the records that agree below n have the same ones act
@@ -23,36 +22,29 @@ unfolding actedTo acted
 acted-same s p q image batch zero e = refl
 acted-same s p q image batch (suc n) e = rw (e n (omega arith), acted-same s p q image batch n (λ i l. e i (omega arith)))
 
-module _ (s : Shape) (image batch : List ℕ) where
-  -- there are no more new keys than records
-  pub new-count-bound : newCount (s .layout) (isLive s image) batch ≤ recordCount (s .layout) batch
-  unfolding newCount
-  new-count-bound = count-le (recordCount (s .layout) batch) (isNew (s .layout) (isLive s image) batch)
+module _ (s : Shape) (image batch hashes turns order : List ℕ) (count : ℕ) (ready : Prepared s image batch hashes turns order count) where
+  -- the order is of records
+  pub order-below : (k : ℕ) → k < count → getD order k 0 < recordCount (s .layout) batch
+  order-below k l = rw (ready .ordered .each k l) (new-at (s .layout) (isLive s image) batch k (omega (arith, ready .counted)) .inside)
 
-  module _ (marks : List ℕ) (marked : Marked (s .layout) (isLive s image) batch marks) where
-    -- each mark of a new key is that of a record
-    pub marked-below : (k : ℕ) → k < newCount (s .layout) (isLive s image) batch → markedAt marks (recordCount (s .layout) batch) k < recordCount (s .layout) batch
-    marked-below k l = rw (marked-new (s .layout) (isLive s image) batch marks marked k) (new-at (s .layout) (isLive s image) batch k l .inside)
+  -- the records that act by their turns
+  live-turns : actedTo s (newBy turns) image batch (recordCount (s .layout) batch) ≡ afterLive s image batch (recordCount (s .layout) batch)
+  unfolding afterLive
+  live-turns = acted-same s _ _ image batch (recordCount (s .layout) batch) (turn-new (s .layout) (isLive s image) batch turns (ready .turned))
 
-    -- the records that act by the marks
-    marked-live : actedTo s (isMarked marks) image batch (recordCount (s .layout) batch) ≡ afterLive s image batch (recordCount (s .layout) batch)
-    unfolding afterLive
-    marked-live = acted-same s _ _ image batch (recordCount (s .layout) batch) (marked-is-new (s .layout) (isLive s image) batch marks marked)
+  -- the new keys appended in their order
+  in-order : (k : ℕ) → k ≤ count → appendedTo s batch order (afterLive s image batch (recordCount (s .layout) batch)) k ≡ afterNew s image batch k
+  unfolding appendedTo oneAppended afterNew
+  in-order zero l = refl
+  in-order (suc k) l = rw (in-order k (omega arith), ready .ordered .each k l)
 
-    -- the new keys appended by their marks
-    marked-after : (k : ℕ) → appendedTo s batch marks (afterLive s image batch (recordCount (s .layout) batch)) k ≡ afterNew s image batch k
-    unfolding appendedTo oneAppended afterNew
-    marked-after zero = refl
-    marked-after (suc k) = rw (marked-after k, marked-new (s .layout) (isLive s image) batch marks marked k)
-
-    pub applied :
-        (count : ℕ) → count ≡ newCount (s .layout) (isLive s image) batch → (a : List ℕ)
-        → a ≡ actedTo s (isMarked marks) image batch (recordCount (s .layout) batch) → (b : List ℕ)
-        → b ≡ appendedTo s batch marks a count → (t : Shape) → t ≡ withSlots s (s .«slot_highwater» + count)
-        → settled t b ≡ committed s image batch
-    unfolding committed
-    applied count n a ea b eb t et =
-        ap (λ (u : Shape). settled u b) et
-        ∙ ap (settled (withSlots s (s .«slot_highwater» + count)))
-        (eb ∙ ap (λ (i : List ℕ). appendedTo s batch marks i count) (ea ∙ marked-live) ∙ marked-after count)
-        ∙ ap (λ (k : ℕ). settled (withSlots s (s .«slot_highwater» + k)) (afterNew s image batch k)) n
+  pub applied :
+      (a : List ℕ) → a ≡ actedTo s (newBy turns) image batch (recordCount (s .layout) batch)
+      → (b : List ℕ) → b ≡ appendedTo s batch order a count → (t : Shape) → t ≡ withSlots s (s .«slot_highwater» + count)
+      → settled t b ≡ committed s image batch
+  unfolding committed
+  applied a ea b eb t et =
+      ap (λ (u : Shape). settled u b) et
+      ∙ ap (settled (withSlots s (s .«slot_highwater» + count)))
+      (eb ∙ ap (λ (i : List ℕ). appendedTo s batch order i count) (ea ∙ live-turns) ∙ in-order count (omega arith))
+      ∙ ap (λ (k : ℕ). settled (withSlots s (s .«slot_highwater» + k)) (afterNew s image batch k)) (ready .counted)

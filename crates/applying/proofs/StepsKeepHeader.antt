@@ -7,7 +7,7 @@ use mathlib.Core.List.{List}
 use native.Mathlib.Nat.{mod-lt}
 use native.Mathlib.Omega.{arith}
 use lib.Dec.{eqb, ltb}
-use lib.ListN.{length}
+use lib.ListN.{length, getD}
 use Rattle.digests.specs.Fnv.{fnv1a64}
 use Rattle.probing.specs.Probe.{Probed, found, absent, broken}
 use Rattle.probing.specs.Table.{tombstoneCount}
@@ -23,7 +23,6 @@ use Rattle.slots.proofs.Table.Removed.{removed-around}
 use Rattle.slots.proofs.Table.Appended.{appended-around}
 use Rattle.slots.proofs.Table.Rebuilt.{rebuilt-around}
 use Rattle.batch.specs.Batch.{recordCount, recordAt, metaIn, keyIn, recordKey, decides}
-use Rattle.batch.specs.Marks.{markedAt}
 use Rattle.header.specs.Counters.{withCounters, withSlots}
 use Rattle.applying.specs.Apply.{onLive, acted, actedTo, tidied}
 use Rattle.applying.specs.Prepared.{oneAppended, appendedTo}
@@ -64,16 +63,15 @@ module _ (s : Shape) (image : List ℕ) (fit : Shaped s image) where
       around-either (decides (s .layout) batch i && not (new i))
       (live-kept (recordAt (s .layout) batch i) (record-length (s .layout) batch i l) (probeOf s image (recordKey (s .layout) batch i)) refl) (around-self)
 
-  -- the record of a mark is appended
+  -- a record of the order is appended
   pub one-kept :
-      (batch marks : List ℕ) (k : ℕ) → s .«slot_highwater» + k < s .layout .«slot_capacity»
-      → markedAt marks (recordCount (s .layout) batch) k < recordCount (s .layout) batch → Around image (oneAppended s batch marks k image)
+      (batch order : List ℕ) (k : ℕ) → s .«slot_highwater» + k < s .layout .«slot_capacity»
+      → getD order k 0 < recordCount (s .layout) batch → Around image (oneAppended s batch order k image)
   unfolding oneAppended withSlots withCounters
-  one-kept batch marks k room l =
-      let i = markedAt marks (recordCount (s .layout) batch) k in
+  one-kept batch order k room l =
       appended-around (withSlots s (s .«slot_highwater» + k)) image
-      (slots-shaped s image fit (s .«slot_highwater» + k) (omega arith) (omega arith)) room (recordAt (s .layout) batch i)
-      (record-length (s .layout) batch i l)
+      (slots-shaped s image fit (s .«slot_highwater» + k) (omega arith) (omega arith)) room (recordAt (s .layout) batch (getD order k 0))
+      (record-length (s .layout) batch (getD order k 0) l)
 
   pub tidied-kept : Around image (tidied s image)
   unfolding tidied
@@ -90,10 +88,10 @@ module _ (s : Shape) (image : List ℕ) (fit : Shaped s image) (batch : List ℕ
       around-then k (acted-kept s (actedTo s new image batch i) (around-shaped k fit) new batch i l)
 
   -- all new keys are appended
-  module _ (marks : List ℕ) (count : ℕ) (room : s .«slot_highwater» + count ≤ s .layout .«slot_capacity») (there : (k : ℕ) → k < count → markedAt marks (recordCount (s .layout) batch) k < recordCount (s .layout) batch) where
-    pub new-all-kept : (k : ℕ) → k ≤ count → Around image (appendedTo s batch marks image k)
+  module _ (order : List ℕ) (count : ℕ) (room : s .«slot_highwater» + count ≤ s .layout .«slot_capacity») (there : (k : ℕ) → k < count → getD order k 0 < recordCount (s .layout) batch) where
+    pub new-all-kept : (k : ℕ) → k ≤ count → Around image (appendedTo s batch order image k)
     unfolding appendedTo
     new-all-kept zero l = around-self
     new-all-kept (suc k) l =
         let a = new-all-kept k (omega arith) in
-        around-then a (one-kept s (appendedTo s batch marks image k) (around-shaped a fit) batch marks k (omega arith) (there k l))
+        around-then a (one-kept s (appendedTo s batch order image k) (around-shaped a fit) batch order k (omega arith) (there k l))

@@ -1,29 +1,30 @@
--- What the code goes by when it applies a batch: what was found out of it before, and its new keys appended by their marks.
+-- What the code goes by when it applies a batch: what was found out of it before, and its new keys appended in their order.
 -- Assumes nothing.
 use Prim.Native.Nat.{ℕ, zero, suc, _+_, _≤_}
 use mathlib.Core.Path.{_≡_}
 use mathlib.Core.List.{List}
+use lib.ListN.{getD}
 use Rattle.header.specs.declared.shape.Shape.{Shape}
 use Rattle.header.specs.Counters.{withSlots}
 use Rattle.image.specs.Lookup.{isLive}
 use Rattle.slots.specs.Slots.{appended}
-use Rattle.batch.specs.Batch.{most-records, recordCount, recordAt}
-use Rattle.batch.specs.NewKeys.{newCount}
-use Rattle.batch.specs.Marks.{Marked, markedAt}
+use Rattle.batch.specs.Batch.{recordCount, recordAt}
+use Rattle.batch.specs.NewKeys.{newCount, newAt}
+use Rattle.batch.specs.Notes.{Noted, hashOf, turnOf}
 
--- the records are few enough, the marks are theirs, and the new keys are so many and have room
-pub record Prepared (s : Shape) (image batch marks : List ℕ) (count : ℕ) : Type 0 where
-  pub few : recordCount (s .layout) batch ≤ most-records
-  pub marked : Marked (s .layout) (isLive s image) batch marks
+-- the hashes and turns of the records, and the records of the new keys, which are so many and have room
+pub record Prepared (s : Shape) (image batch hashes turns order : List ℕ) (count : ℕ) : Type 0 where
+  pub hashed : Noted (hashOf (s .layout) batch) (recordCount (s .layout) batch) hashes
+  pub turned : Noted (turnOf (s .layout) (isLive s image) batch) (recordCount (s .layout) batch) turns
+  pub ordered : Noted (newAt (s .layout) (isLive s image) batch) count order
   pub counted : count ≡ newCount (s .layout) (isLive s image) batch
   pub room : s .«slot_highwater» + count ≤ s .layout .«slot_capacity»
 
--- one record appended by its mark, and the first r
+-- one record of the order appended, and the first r
 unfoldable pub oneAppended : Shape → List ℕ → List ℕ → ℕ → List ℕ → List ℕ
-oneAppended s batch marks r image =
-    appended (withSlots s (s .«slot_highwater» + r)) image
-    (recordAt (s .layout) batch (markedAt marks (recordCount (s .layout) batch) r))
+oneAppended s batch order r image =
+    appended (withSlots s (s .«slot_highwater» + r)) image (recordAt (s .layout) batch (getD order r 0))
 
 unfoldable pub appendedTo : Shape → List ℕ → List ℕ → List ℕ → ℕ → List ℕ
-appendedTo s batch marks image zero = image
-appendedTo s batch marks image (suc r) = oneAppended s batch marks r (appendedTo s batch marks image r)
+appendedTo s batch order image zero = image
+appendedTo s batch order image (suc r) = oneAppended s batch order r (appendedTo s batch order image r)

@@ -3,7 +3,7 @@ ghost use mathlib.Core.Path.{_≡_};
 ghost use Rattle.probing.specs.Table.{liveCount, tombstoneCount};
 ghost use Rattle.header.specs.Shaped.{Shaped};
 ghost use Rattle.image.specs.Table.{tableOf};
-use batch::new_keys::one_if;
+use batch::batch::one_if;
 use header::shape::Shape;
 use image::table::TOMBSTONE;
 use image::table::meta_of;

@@ -10,7 +10,7 @@ use Rattle.numbers.proofs.Put.{length-part}
 use Rattle.header.specs.declared.shape.Layout.{Layout}
 use Rattle.header.specs.Sizes.{align8, slotSize}
 use Rattle.header.proofs.SizeLaws.{align8-low}
-use Rattle.batch.specs.Batch.{SlotSized, recordCount, recordAt}
+use Rattle.batch.specs.Batch.{SlotSized, recordCount, recordAt, keyIn, recordKey}
 
 -- a record is as long as its parts, and a part no longer than with its padding
 pub record Sizes (layout : Layout) : Type 0 where
@@ -35,3 +35,9 @@ module _ (layout : Layout) (batch : List ℕ) (i : ℕ) (h : i < recordCount lay
   pub record-length : length (recordAt layout batch i) ≡ layout .«slot_size»
   unfolding recordAt
   record-length = length-part batch (i * layout .«slot_size») (layout .«slot_size») record-inside
+
+  -- and its key as long as a key is
+  pub key-length : SlotSized layout → length (recordKey layout batch i) ≡ layout .«key_size»
+  unfolding recordKey keyIn
+  key-length laid =
+      length-part (recordAt layout batch i) 8 (layout .«key_size») (omega (arith, record-length, sizes layout laid))

@@ -1,3 +1,6 @@
 pub mod Batch
 pub mod NewKeys
-pub mod Marks
+pub mod Notes
+pub mod Index
+pub mod Sorted
+pub mod Heads

@@ -2,17 +2,23 @@
 ghost use mathlib.Core.Path.{_≡_};
 ghost use Prim.Native.Nat.{_+_, _<_};
 ghost use lib.ListN.{length};
+ghost use Rattle.probing.specs.Counting.{one};
 ghost use Rattle.header.specs.Sizes.{align8 as aligned};
 ghost use Rattle.batch.specs.Batch.{SlotSized, recordCount, recordAt, metaIn, keyIn, keyPadding, revisionAndIndex, indexPadding, malformed, someMalformed, batchWrong, recordKey};
-ghost use Rattle.batch.specs.Batch.{decides as deciding};
 use header::shape::Layout;
 use header::sizes::align8;
 use numbers::parts::all_zero;
-use numbers::parts::same_bytes;
 use numbers::words::u64_at;
 
 // A batch has 0 to so many records.
 pub const MOST_RECORDS: usize = 64;
+
+// 1 where the test passes, else 0.
+pub fn one_if(test: bool) -> usize
+    ensures { λ r. ⌜ r ≡ one test ⌝ }
+{
+    if test { 1 } else { 0 }
+}
 
 // How many records a batch has.
 pub fn record_count(batch: &[u8], l: Layout) -> usize
@@ -153,21 +159,4 @@ pub fn record_key<'a>(batch: &'a [u8], l: Layout, i: usize) -> &'a [u8]
     ensures { λ r. ⌜ now r ≡ recordKey l (now (batch .entry)) i ⌝ }
 {
     key_in(record(batch, l, i), l)
-}
-
-// Whether no later record has the key of record i.
-pub fn decides(batch: &[u8], l: Layout, i: usize) -> bool
-    requires { ⌜ SlotSized l ⌝ }
-    requires { ⌜ i < recordCount l (now batch) ⌝ }
-    ensures { λ r. ⌜ r ≡ deciding l (now (batch .entry)) i ⌝ }
-{
-    let count = record_count(batch, l);
-    let mut j = i + 1;
-    while j < count {
-        if same_bytes(record_key(batch, l, j), record_key(batch, l, i)) {
-            return false;
-        }
-        j += 1;
-    }
-    true
 }

@@ -1,4 +1,3 @@
 pub mod Behind
 pub mod TestGroups
-pub mod Newness
-pub mod Planning
+pub mod Turn

@@ -6,26 +6,37 @@ ghost use Rattle.header.specs.Shaped.{Shaped};
 ghost use Rattle.writing.specs.Write.{Leaves, unless};
 ghost use Rattle.applying.specs.Apply.{committed};
 ghost use Rattle.commit.specs.Commit.{furtherTests, commitOf};
-use crate::plan::plan_commit;
+use crate::further::room_test;
+use crate::further::sound_test;
+use crate::turns::take_turns;
 use applying::apply::apply;
+use batch::decided::hash_keys;
+use batch::new_keys::order_new_keys;
 use header::answer::DONE;
 use header::options::Options;
 use header::shape::Judged;
 use header::shape::Shape;
 use writing::judge::judge_change;
 
-// Plans and, where nothing refuses the batch, acts. Any answer but 0 leaves every byte alone.
+// Makes the further tests and, where none refuses the batch, acts. Any answer but 0 leaves every byte alone.
 fn commit_in(image: &mut [u8], s: Shape, batch: &[u8]) -> u32
     requires { ⌜ Shaped s (now image) ⌝ }
     requires { ⌜ value (now image) generation + 2 < 2 ^ 64 ⌝ }
     ensures { λ r. ⌜ Leaves (unless (firstOf (furtherTests s (now (image .entry)) (now (batch .entry)))) (now (image .entry)) (committed s (now (image .entry)) (now (batch .entry)))) r (now (image .exit)) ⌝ }
 {
-    let planned = plan_commit(image, s, batch);
-    if planned.answer != DONE {
-        return planned.answer;
+    let sound = sound_test(image, s, batch);
+    if sound != DONE {
+        return sound;
     }
-    let marks = planned.marks;
-    apply(image, s, batch, &marks, planned.count);
+    let hashes = hash_keys(batch, s.layout);
+    let turns = take_turns(image, s, batch, &hashes);
+    let order = order_new_keys(batch, s.layout, &turns);
+    let records = order.records;
+    let room = room_test(image, s, batch, &records, order.count);
+    if room != DONE {
+        return room;
+    }
+    apply(image, s, batch, &hashes, &turns, &records, order.count);
     DONE
 }
 

@@ -1,16 +1,13 @@
 // The further tests of a commit, in order.
 ghost use mathlib.Core.Path.{_≡_};
-ghost use Prim.Native.Nat.{_≤_};
 ghost use Rattle.header.specs.Shaped.{Shaped};
 ghost use Rattle.image.specs.Lookup.{isLive};
 ghost use Rattle.header.specs.FirstOf.{firstOf};
-ghost use Rattle.batch.specs.Batch.{recordCount, most-records};
-ghost use Rattle.batch.specs.Marks.{Flagged};
+ghost use Rattle.batch.specs.NewKeys.{newCount, newAt};
+ghost use Rattle.batch.specs.Notes.{Noted};
 ghost use Rattle.commit.specs.Commit.{fallsBehind, soundTests, roomTests};
 use batch::batch::batch_wrong;
-use batch::batch::record_count;
 use batch::batch::record_key;
-use batch::new_keys::count_flags;
 use header::answer::DONE;
 use header::answer::FULL;
 use header::answer::INVALID_INPUT;
@@ -35,11 +32,11 @@ pub fn sound_test(image: &[u8], s: Shape, batch: &[u8]) -> u32
     DONE
 }
 
-// Whether some new key comes before the key of the last slot given out.
-fn falls_behind(image: &[u8], s: Shape, batch: &[u8], flags: &[u8]) -> bool
+// Whether the first of the new keys, so many in order, comes before the key of the last slot given out.
+fn falls_behind(image: &[u8], s: Shape, batch: &[u8], order: &[u16], count: usize) -> bool
     requires { ⌜ Shaped s (now image) ⌝ }
-    requires { ⌜ recordCount (s .layout) (now batch) ≤ most-records ⌝ }
-    requires { ⌜ Flagged (s .layout) (isLive s (now image)) (now batch) (now flags) ⌝ }
+    requires { ⌜ Noted (newAt (s .layout) (isLive s (now image)) (now batch)) count (now order) ⌝ }
+    requires { ⌜ count ≡ newCount (s .layout) (isLive s (now image)) (now batch) ⌝ }
     ensures { λ r. ⌜ r ≡ fallsBehind s (now (image .entry)) (now (batch .entry)) ⌝ }
 {
     if !s.layout.ordered {
@@ -48,34 +45,27 @@ fn falls_behind(image: &[u8], s: Shape, batch: &[u8], flags: &[u8]) -> bool
     if s.slot_highwater == 0 {
         return false;
     }
-    let count = record_count(batch, s.layout);
-    let last = s.slot_highwater - 1;
-    let mut i = 0;
-    while i < count {
-        let before = comes_before(
-            record_key(batch, s.layout, i),
-            key_of(image, s.layout, last),
-        );
-        if (flags[i] == 1) & before {
-            return true;
-        }
-        i += 1;
+    if count == 0 {
+        return false;
     }
-    false
+    let last = s.slot_highwater - 1;
+    comes_before(
+        record_key(batch, s.layout, order[0] as usize),
+        key_of(image, s.layout, last),
+    )
 }
 
-// The tests of the new keys: 0 or the number that refuses.
-pub fn room_test(image: &[u8], s: Shape, batch: &[u8], flags: &[u8]) -> u32
+// The tests of the new keys, so many in order: 0 or the number that refuses.
+pub fn room_test(image: &[u8], s: Shape, batch: &[u8], order: &[u16], count: usize) -> u32
     requires { ⌜ Shaped s (now image) ⌝ }
-    requires { ⌜ recordCount (s .layout) (now batch) ≤ most-records ⌝ }
-    requires { ⌜ Flagged (s .layout) (isLive s (now image)) (now batch) (now flags) ⌝ }
+    requires { ⌜ Noted (newAt (s .layout) (isLive s (now image)) (now batch)) count (now order) ⌝ }
+    requires { ⌜ count ≡ newCount (s .layout) (isLive s (now image)) (now batch) ⌝ }
     ensures { λ r. ⌜ r ≡ firstOf (roomTests s (now (image .entry)) (now (batch .entry))) ⌝ }
 {
-    let count = record_count(batch, s.layout);
-    if s.layout.slot_capacity - s.slot_highwater < count_flags(flags, count) {
+    if s.layout.slot_capacity - s.slot_highwater < count {
         return FULL;
     }
-    if falls_behind(image, s, batch, flags) {
+    if falls_behind(image, s, batch, order, count) {
         return OUT_OF_ORDER;
     }
     DONE

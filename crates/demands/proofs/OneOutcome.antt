@@ -1,10 +1,11 @@
 -- One outcome: what follows from the inputs alone coincides.
 -- Assumes nothing.
 use Prim.Native.Nat.{ℕ}
-use mathlib.Core.Path.{_≡_, sym, _∙_}
+use mathlib.Core.Path.{_≡_, sym, ap₂, subst, _∙_}
 use mathlib.Core.List.{List}
-use lib.ListN.{length}
-use Rattle.batch.proofs.Filled.{Filled, filled-alike}
+use Rattle.batch.specs.declared.new_keys.Order.{Order}
+use Rattle.batch.specs.Notes.{Noted}
+use Rattle.batch.proofs.Noted.{noted-same}
 use Rattle.demands.specs.Outcomes.{One, Outcomes}
 
 -- outcomes that are one definition's coincide
@@ -16,16 +17,26 @@ follows-one :
     → One promise outcome
 follows-one follows κ a x y e f p q = follows κ a x e p ∙ sym (follows κ a y f q)
 
--- lists of one length that are filled alike coincide
-filled-one :
-    {K : Type 0} {Arguments Exit : K → Type 0} {after : (κ : K) → Arguments κ → List ℕ → Exit κ → Type 0} {m : ℕ}
+-- lists in which the same is noted coincide
+noted-one :
+    {K : Type 0} {Arguments Exit : K → Type 0} {after : (κ : K) → Arguments κ → List ℕ → Exit κ → Type 0}
     {f : (κ : K) → Arguments κ → ℕ → ℕ} {n : (κ : K) → Arguments κ → ℕ}
-    → ((κ : K) (a : Arguments κ) (x : List ℕ) (e : Exit κ) → after κ a x e → (length x ≡ m) × Filled (f κ a) x (n κ a))
+    → ((κ : K) (a : Arguments κ) (x : List ℕ) (e : Exit κ) → after κ a x e → Noted (f κ a) (n κ a) x)
     → One after (λ κ x e. x)
-filled-one {f} {n} fills κ a x y e g p q =
-    let u = fills κ a x e p in
-    let v = fills κ a y g q in
-    filled-alike (f κ a) (n κ a) x y (u .0 ∙ sym (v .0)) (u .1) (v .1)
+noted-one notes κ a x y e g p q = noted-same (notes κ a x e p) (notes κ a y g q)
+
+-- and so do orders of so many records
+ordered-one :
+    {K : Type 0} {Arguments Exit : K → Type 0} {after : (κ : K) → Arguments κ → Order → Exit κ → Type 0}
+    {f : (κ : K) → Arguments κ → ℕ → ℕ} {n : (κ : K) → Arguments κ → ℕ}
+    → ((κ : K) (a : Arguments κ) (x : Order) (e : Exit κ) → after κ a x e → (x .count ≡ n κ a) × Noted (f κ a) (x .count) (x .records))
+    → One after (λ κ x e. x)
+ordered-one {f} orders κ a x y e g p q =
+    let u = orders κ a x e p in
+    let v = orders κ a y g q in
+    let count = u .0 ∙ sym (v .0) in
+    let records = noted-same (subst (λ (n : ℕ). Noted (f κ a) n (x .records)) count (u .1)) (v .1) in
+    ap₂ (λ (n : ℕ) (xs : List ℕ). record { count = n; records = xs }) count records
 
 pub outcomes : Outcomes
 outcomes =
@@ -70,6 +81,7 @@ outcomes =
       hash64-of = follows-one (λ κ a x e p. p);
       slot-plus1-of = follows-one (λ κ a x e p. p);
       next-bucket = follows-one (λ κ a x e p. p);
+      probe-hashed = follows-one (λ κ a x e p. p);
       probe-for = follows-one (λ κ a x e p. p);
       refused = follows-one (λ κ a x e p. p);
       write = follows-one (λ κ a x e p. p);
@@ -81,6 +93,7 @@ outcomes =
       append = follows-one (λ κ a x e p. p);
       rebuild = follows-one (λ κ a x e p. p);
       publish = follows-one (λ κ a x e p. p);
+      one-if = follows-one (λ κ a x e p. p);
       record-count = follows-one (λ κ a x e p. p);
       «record» = follows-one (λ κ a x e p. p);
       meta-in = follows-one (λ κ a x e p. p);
@@ -88,10 +101,8 @@ outcomes =
       batch-wrong = follows-one (λ κ a x e p. p);
       record-meta = follows-one (λ κ a x e p. p);
       record-key = follows-one (λ κ a x e p. p);
-      decides = follows-one (λ κ a x e p. p);
-      one-if = follows-one (λ κ a x e p. p);
-      count-flags = follows-one (λ κ a x e p. p);
-      mark-new-keys = filled-one (λ κ a x e p. (p .size, (p .each, p .rest)));
-      marked-at = follows-one (λ κ a x e p. p);
+      hash-keys = noted-one (λ κ a x e p. p);
+      flag-deciding = noted-one (λ κ a x e p. p);
+      order-new-keys = ordered-one (λ κ a x e p. p);
       apply = follows-one (λ κ a x e p. p);
     }

@@ -44,6 +44,7 @@ use Rattle.image.proofs.table.key_of.Reads as key-of-reads
 use Rattle.image.proofs.table.hash64_of.Reads as hash64-of-reads
 use Rattle.image.proofs.table.slot_plus1_of.Reads as slot-plus1-of-reads
 use Rattle.image.proofs.table.next_bucket.Reads as next-bucket-reads
+use Rattle.image.proofs.probe.probe_hashed.Reads as probe-hashed-reads
 use Rattle.image.proofs.probe.probe_for.Reads as probe-for-reads
 use Rattle.listing.proofs.listed.refused.Reads as refused-reads
 use Rattle.writing.proofs.fields.write.Reads as write-reads
@@ -55,6 +56,7 @@ use Rattle.slots.proofs.slots.remove.Reads as remove-reads
 use Rattle.slots.proofs.slots.append.Reads as append-reads
 use Rattle.slots.proofs.slots.rebuild.Reads as rebuild-reads
 use Rattle.slots.proofs.slots.publish.Reads as publish-reads
+use Rattle.batch.proofs.batch.one_if.Reads as one-if-reads
 use Rattle.batch.proofs.batch.record_count.Reads as record-count-reads
 use Rattle.batch.proofs.batch.record.Reads as record-reads
 use Rattle.batch.proofs.batch.meta_in.Reads as meta-in-reads
@@ -62,11 +64,9 @@ use Rattle.batch.proofs.batch.key_in.Reads as key-in-reads
 use Rattle.batch.proofs.batch.batch_wrong.Reads as batch-wrong-reads
 use Rattle.batch.proofs.batch.record_meta.Reads as record-meta-reads
 use Rattle.batch.proofs.batch.record_key.Reads as record-key-reads
-use Rattle.batch.proofs.batch.decides.Reads as decides-reads
-use Rattle.batch.proofs.new_keys.one_if.Reads as one-if-reads
-use Rattle.batch.proofs.new_keys.count_flags.Reads as count-flags-reads
-use Rattle.batch.proofs.new_keys.mark_new_keys.Reads as mark-new-keys-reads
-use Rattle.batch.proofs.new_keys.marked_at.Reads as marked-at-reads
+use Rattle.batch.proofs.decided.hash_keys.Reads as hash-keys-reads
+use Rattle.batch.proofs.decided.flag_deciding.Reads as flag-deciding-reads
+use Rattle.batch.proofs.new_keys.order_new_keys.Reads as order-new-keys-reads
 use Rattle.applying.proofs.apply.apply.Reads as apply-reads
 
 -- A promise speaks of the arguments, the result and what is lent at the return; `outcome` picks what a caller sees.
@@ -121,6 +121,7 @@ pub record Outcomes : Type 2 where
   -- image, check
   pub passes-check : One passes-check-reads.Post (λ κ x e. x)
   -- image, probe
+  pub probe-hashed : One probe-hashed-reads.Post (λ κ x e. x)
   pub probe-for : One probe-for-reads.Post (λ κ x e. x)
   -- image, table
   pub slot-at : One slot-at-reads.Post (λ κ x e. x)
@@ -147,6 +148,7 @@ pub record Outcomes : Type 2 where
   pub rebuild : One rebuild-reads.Post (λ κ x e. now (arg1 e))
   pub publish : One publish-reads.Post (λ κ x e. now (arg1 e))
   -- batch, batch
+  pub one-if : One one-if-reads.Post (λ κ x e. x)
   pub record-count : One record-count-reads.Post (λ κ x e. x)
   pub «record» : One record-reads.Post (λ κ x e. now x)
   pub meta-in : One meta-in-reads.Post (λ κ x e. x)
@@ -154,11 +156,10 @@ pub record Outcomes : Type 2 where
   pub batch-wrong : One batch-wrong-reads.Post (λ κ x e. x)
   pub record-meta : One record-meta-reads.Post (λ κ x e. x)
   pub record-key : One record-key-reads.Post (λ κ x e. now x)
-  pub decides : One decides-reads.Post (λ κ x e. x)
+  -- batch, decided
+  pub hash-keys : One hash-keys-reads.Post (λ κ x e. x)
+  pub flag-deciding : One flag-deciding-reads.Post (λ κ x e. x)
   -- batch, new_keys
-  pub one-if : One one-if-reads.Post (λ κ x e. x)
-  pub count-flags : One count-flags-reads.Post (λ κ x e. x)
-  pub mark-new-keys : One mark-new-keys-reads.Post (λ κ x e. x)
-  pub marked-at : One marked-at-reads.Post (λ κ x e. x)
+  pub order-new-keys : One order-new-keys-reads.Post (λ κ x e. x)
   -- applying, apply
   pub apply : One apply-reads.Post (λ κ x e. now (arg1 e))

@@ -74,12 +74,12 @@ fn examine(image: &[u8], s: Shape, key: &[u8], hash: u64, b: usize) -> Step
     examine_full(image, s, key, hash, hash64, (slot_plus1 - 1) as usize)
 }
 
-// The probe of a key: from its home bucket on, one bucket after the other, at most all of them.
-pub fn probe_for(image: &[u8], s: Shape, key: &[u8]) -> Probe
+// The probe of a key with this hash: from its home bucket on, one bucket after the other, at most all of them.
+pub fn probe_hashed(image: &[u8], s: Shape, key: &[u8], hash: u64) -> Probe
     requires { ⌜ Shaped s (now image) ⌝ }
+    requires { ⌜ hash ≡ fnv1a64 (now key) ⌝ }
     ensures { λ r. ⌜ r ≡ told (probeOf s (now (image .entry)) (now (key .entry))) ⌝ }
 {
-    let hash = fnv1a64_of(key);
     let count = s.layout.bucket_count;
     let mut b = (hash % (count as u64)) as usize;
     let mut examined = 0;
@@ -97,4 +97,12 @@ pub fn probe_for(image: &[u8], s: Shape, key: &[u8]) -> Probe
         }
     }
     Probe::Broken
+}
+
+// The probe of a key.
+pub fn probe_for(image: &[u8], s: Shape, key: &[u8]) -> Probe
+    requires { ⌜ Shaped s (now image) ⌝ }
+    ensures { λ r. ⌜ r ≡ told (probeOf s (now (image .entry)) (now (key .entry))) ⌝ }
+{
+    probe_hashed(image, s, key, fnv1a64_of(key))
 }

@@ -4,10 +4,12 @@ ghost use mathlib.Core.Bool.{cond};
 ghost use Prim.Native.Nat.{_+_, _%_, _^_, _≤_, _<_};
 ghost use lib.Dec.{eqb};
 ghost use lib.ListN.{length};
+ghost use Rattle.numbers.specs.Bytes.{part};
+ghost use Rattle.digests.specs.Fnv.{fnv1a64};
 ghost use Rattle.probing.specs.Change.{placeFrom};
 ghost use Rattle.header.specs.Fields.{value, generation};
 ghost use Rattle.header.specs.Shaped.{LaidOut, Shaped};
-ghost use Rattle.image.specs.Table.{metaOf, tableOf};
+ghost use Rattle.image.specs.Table.{metaOf, keyOf, tableOf};
 ghost use Rattle.slots.specs.Slots.{rewritten, removed, indexed, appended, rebuilt, counted};
 use digests::fnv::fnv1a64_of;
 use header::fields;
@@ -77,30 +79,31 @@ fn place_of(image: &[u8], s: Shape, hash: u64) -> usize
     b
 }
 
-// Puts slot n into the index by its key.
-fn index_slot(image: &mut [u8], s: Shape, n: usize)
+// Puts slot n into the index by its key, which has this hash.
+fn index_slot(image: &mut [u8], s: Shape, n: usize, hash: u64)
     requires { ⌜ Shaped s (now image) ⌝ }
     requires { ⌜ n < s .layout .«slot_capacity» ⌝ }
+    requires { ⌜ hash ≡ fnv1a64 (keyOf (s .layout) (now image) n) ⌝ }
     ensures { λ r. ⌜ now (image .exit) ≡ indexed s (now (image .entry)) n ⌝ }
 {
-    let hash = fnv1a64_of(key_of(image, s.layout, n));
     let b = place_of(image, s, hash);
     let at = bucket_at(s.layout, b);
     put_u64(image, at, hash);
     put_u64(image, at + 8, (n as u64) + 1);
 }
 
-// Makes a record the next slot, and puts that slot into the index.
-pub fn append(image: &mut [u8], s: Shape, record: &[u8])
+// Makes a record, whose key has this hash, the next slot, and puts that slot into the index.
+pub fn append(image: &mut [u8], s: Shape, record: &[u8], hash: u64)
     requires { ⌜ Shaped s (now image) ⌝ }
     requires { ⌜ s .«slot_highwater» < s .layout .«slot_capacity» ⌝ }
     requires { ⌜ length (now «record») ≡ s .layout .«slot_size» ⌝ }
+    requires { ⌜ hash ≡ fnv1a64 (part (now «record») 8 (s .layout .«key_size»)) ⌝ }
     ensures { λ r. ⌜ now (image .exit) ≡ appended s (now (image .entry)) (now («record» .entry)) ⌝ }
 {
     let n = s.slot_highwater;
     let at = slot_at(s.layout, n);
     copy_to(image, at, record);
-    index_slot(image, s, n);
+    index_slot(image, s, n, hash);
 }
 
 // Puts slot n into the index if it is live.
@@ -110,7 +113,8 @@ fn index_live(image: &mut [u8], s: Shape, n: usize)
     ensures { λ r. ⌜ now (image .exit) ≡ cond (eqb (metaOf (s .layout) (now (image .entry)) n) 1) (indexed s (now (image .entry)) n) (now (image .entry)) ⌝ }
 {
     if meta_of(image, s.layout, n) == 1 {
-        index_slot(image, s, n);
+        let hash = fnv1a64_of(key_of(image, s.layout, n));
+        index_slot(image, s, n, hash);
     }
 }
 

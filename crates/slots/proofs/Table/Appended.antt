@@ -88,7 +88,7 @@ module _ (s : Shape) (image : List ℕ) (fit : Shaped s image) (room : s .«slot
       same-slot-then (slot-put-slot (s .layout) image (fit .laid) (slotAt (s .layout) n) bytes n room (omega arith) high m other) (indexed-slot s mid mid-fit n room m l)
 
   -- the new slot is the record
-  mid-new : Holds (s .layout) mid n bytes
+  pub mid-new : Holds (s .layout) mid n bytes
   unfolding metaOf keyOf revisionOf indexOf keyAt revisionAt indexAt
   mid-new =
       let key = key-in-slot (s .layout) n in

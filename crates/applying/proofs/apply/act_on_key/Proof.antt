@@ -1,29 +1,30 @@
 -- `applying::apply::act_on_key` meets its contract. Each end of the probe has its effect.
 -- Assumes nothing.
-use mathlib.Core.Path.{_≡_, ap, _∙_, sym}
-use Rattle.image.specs.declared.probe.Probe.{Probe}
-use Rattle.image.specs.Lookup.{probeOf}
-use Rattle.image.proofs.Looked.{heard, told-end}
-use Rattle.batch.specs.Batch.{keyIn}
-use Rattle.applying.specs.Apply.{onLive}
-use Rattle.applying.proofs.Acting.{found-facts}
 use borrow.Author.Needs.{needs}
+use mathlib.Core.Path.{_≡_, ap, _∙_, sym}
+use Rattle.applying.proofs.Acting.{found-facts}
+use Rattle.applying.specs.Apply.{onLive}
+use Rattle.batch.specs.Batch.{keyIn}
+use Rattle.digests.specs.Fnv.{fnv1a64}
+use Rattle.image.proofs.Looked.{heard, told-end}
+use Rattle.image.specs.Lookup.{probeOf}
+use Rattle.image.specs.declared.probe.Probe.{Probe}
 use Rattle.applying.proofs.apply.act_on_key.Statement.{statement}
 use Rattle.applying.proofs.apply.act_on_key.Tie as tie
 
 -- what the probe of the record's key ends in
-ended : (c : tie.After-probe-for) (r : Probe) → c .probe-for .result ≡ r
+ended : (c : tie.After-probe-hashed) (r : Probe) → c .probe-hashed .result ≡ r
     → let a = c .before .before .before .before .before .args in
     probeOf (a .s) (a .image .now) (keyIn (a .s .layout) (a .r .now)) ≡ heard r
 ended c r e =
     let a = c .before .before .before .before .before .args in
-    ap (probeOf (a .s) (a .image .now)) (sym (c .before .key-in .ensures)) ∙ told-end r _ (sym e ∙ c .probe-for .ensures)
+    ap (probeOf (a .s) (a .image .now)) (sym (c .before .key-in .ensures)) ∙ told-end r _ (sym e ∙ c .probe-hashed .ensures)
 
 key-in-requires : tie.Need-key-in-requires
 key-in-requires c κs = search needs
 
-probe-for-requires : tie.Need-probe-for-requires
-probe-for-requires c κs = search needs
+probe-hashed-requires : tie.Need-probe-hashed-requires
+probe-hashed-requires c κs = let b = c .before .before .before .before in (search needs, b .pre .1 .1 ∙ ap fnv1a64 (sym (c .key-in .ensures)))
 
 enum-known-probed : tie.Need-enum-known-probed
 enum-known-probed c = search needs
@@ -32,7 +33,7 @@ act-on-slot-requires : tie.Need-act-on-slot-requires
 act-on-slot-requires c κs =
     let b = c .before .before .before .before .before .before .before .before .before in
     let f = found-facts (b .args .s) (b .args .image .now) (b .pre .0) (keyIn (b .args .s .layout) (b .args .r .now)) _ _ (ended (c .before .before .before .before) _ (c .before .before .probed .given .1)) in
-    (search needs, (search needs, (f .0, (f .1, f .2))))
+    (search needs, (search needs, (search needs, (f .0, (f .1, f .2)))))
 
 enum-known-probed-2 : tie.Need-enum-known-probed-2
 enum-known-probed-2 c = search needs
@@ -44,9 +45,7 @@ same-length : tie.Need-same-length
 same-length c = search needs
 
 returns : tie.Need-returns
-returns c =
-    let a = c .before .before .before .before .before .before .before .before .before .before .before .before .args in
-    c .before .before .act-on-slot .ensures ∙ ap (onLive (a .s) (a .image .now) (a .r .now)) (sym (ended (c .before .before .before .before .before .before .before) _ (c .before .before .before .before .before .probed .given .1)))
+returns c = let a = c .before .before .before .before .before .before .before .before .before .before .before .before .args in c .before .before .act-on-slot .ensures ∙ ap (onLive (a .s) (a .image .now) (a .r .now)) (sym (ended (c .before .before .before .before .before .before .before) _ (c .before .before .before .before .before .probed .given .1)))
 
 same-length-2 : tie.Need-same-length-2
 same-length-2 c = search needs
@@ -65,7 +64,7 @@ act-on-key-spec =
     tie.close
     (tie.spec
     key-in-requires
-    probe-for-requires
+    probe-hashed-requires
     enum-known-probed
     act-on-slot-requires
     enum-known-probed-2

@@ -1,13 +1,11 @@
 -- `applying::apply::act_on_slot` meets its contract.
 -- Assumes nothing.
 use Prim.Native.Nat.{ℕ, _+_, _-_, _%_, _<_}
-use mathlib.Core.Path.{ap, _∙_, sym}
-use mathlib.Core.List.{List}
-use native.Mathlib.Omega.{arith}
-use native.Mathlib.Nat.{mod-lt}
-use Rattle.digests.specs.Fnv.{fnv1a64}
-use Rattle.applying.proofs.Acting.{put-live, delete-live}
 use borrow.Author.Needs.{needs}
+use mathlib.Core.Path.{ap, _∙_, sym}
+use native.Mathlib.Nat.{mod-lt}
+use native.Mathlib.Omega.{arith}
+use Rattle.applying.proofs.Acting.{put-live, delete-live}
 use Rattle.applying.proofs.apply.act_on_slot.Statement.{statement}
 use Rattle.applying.proofs.apply.act_on_slot.Tie as tie
 
@@ -26,15 +24,12 @@ returns c =
     c .before .before .rewrite .ensures
     ∙ put-live (a .s) (a .image .now) (a .r .now) (a .n) (a .examined) (sym (c .before .before .before .before .before .meta-in .ensures) ∙ c .before .before .before .before .if1 .taken)
 
-key-in-requires : tie.Need-key-in-requires
-key-in-requires c κs = search needs
-
 last-bucket-requires : tie.Need-last-bucket-requires
 last-bucket-requires c κs = search needs
 
 remove-requires : tie.Need-remove-requires
 remove-requires c κs =
-    let a = c .before .before .before .before .before .before .before .args in
+    let a = c .before .before .before .before .before .before .args in
     let below : c .before .last-bucket .result < a .s .layout .«bucket_count» = rw (c .before .last-bucket .ensures) (mod-lt _ (omega arith)) in
     (search needs, (search needs, below))
 
@@ -43,12 +38,11 @@ same-length-2 c = search needs
 
 returns-2 : tie.Need-returns-2
 returns-2 c =
-    let a = c .before .before .before .before .before .before .before .before .before .before .args in
+    let b = c .before .before .before .before .before .before .before .before .before in
+    let a = b .args in
     c .before .before .remove .ensures
-    ∙ delete-live (a .s) (a .image .now) (a .r .now) (a .n) (a .examined)
-    (λ e. c .before .before .before .before .before .before .if1 .left (c .before .before .before .before .before .before .before .meta-in .ensures ∙ e)) _
-    (c .before .before .before .before .last-bucket .ensures
-    ∙ ap (λ (k : List ℕ). (fnv1a64 k % a .s .layout .«bucket_count» + (a .examined - 1)) % a .s .layout .«bucket_count») (c .before .before .before .before .before .key-in .ensures))
+    ∙ delete-live (a .s) (a .image .now) (a .r .now) (a .n) (a .examined) (λ e. c .before .before .before .before .before .if1 .left (c .before .before .before .before .before .before .meta-in .ensures ∙ e)) _
+    (c .before .before .before .before .last-bucket .ensures ∙ ap (λ (h : ℕ). (h % a .s .layout .«bucket_count» + (a .examined - 1)) % a .s .layout .«bucket_count») (b .pre .1 .1 .0))
 
 pub act-on-slot-spec : {M : Type 1} → statement M
 act-on-slot-spec =
@@ -58,7 +52,6 @@ act-on-slot-spec =
     rewrite-requires
     same-length
     returns
-    key-in-requires
     last-bucket-requires
     remove-requires
     same-length-2

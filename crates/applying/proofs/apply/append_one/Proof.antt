@@ -1,28 +1,31 @@
 -- `applying::apply::append_one` meets its contract.
 -- Assumes nothing.
 use Prim.Native.Nat.{ℕ, _+_, _<_}
+use borrow.Author.Needs.{needs}
+use lib.ListN.{length, getD}
+use mathlib.Core.List.{List}
 use mathlib.Core.Path.{_≡_, ap, ap₂, _∙_, sym, subst}
 use native.Mathlib.Omega.{arith}
-use mathlib.Core.List.{List}
-use Rattle.header.specs.declared.shape.Shape.{Shape}
-use Rattle.header.specs.Shaped.{Shaped}
-use Rattle.slots.specs.Slots.{appended}
-use Rattle.batch.specs.Batch.{recordCount, recordAt}
-use Rattle.batch.specs.Marks.{markedAt}
-use lib.ListN.{length}
-use Rattle.header.specs.Counters.{withCounters, withSlots}
-use Rattle.applying.specs.Prepared.{oneAppended}
 use Rattle.applying.proofs.StepsKeepHeader.{slots-shaped}
+use Rattle.applying.specs.Prepared.{oneAppended}
 use Rattle.batch.proofs.Records.{record-length}
-use borrow.Author.Needs.{needs}
+use Rattle.batch.specs.Batch.{recordKey, keyIn}
+use Rattle.digests.specs.Fnv.{fnv1a64}
+use Rattle.header.specs.Counters.{withCounters, withSlots}
+use Rattle.header.specs.Shaped.{Shaped}
+use Rattle.header.specs.declared.shape.Shape.{Shape}
+use Rattle.slots.specs.Slots.{appended}
 use Rattle.applying.proofs.apply.append_one.Statement.{statement}
 use Rattle.applying.proofs.apply.append_one.Tie as tie
 
-record-count-requires : tie.Need-record-count-requires
-record-count-requires c κs = search needs
+mul-i : tie.Need-mul-i
+mul-i c = search needs
 
-marked-at-requires : tie.Need-marked-at-requires
-marked-at-requires c κs = search needs
+shared-slice-read-i : tie.Need-shared-slice-read-i
+shared-slice-read-i c = search needs
+
+cast-i : tie.Need-cast-i
+cast-i c = search needs
 
 add-with-slots : tie.Need-add-with-slots
 add-with-slots c = search needs
@@ -31,26 +34,29 @@ with-slots-requires : tie.Need-with-slots-requires
 with-slots-requires c κs = search needs
 
 record-requires : tie.Need-record-requires
-record-requires c κs =
-    let a = c .before .before .before .before .before .before .before .before .args in
-    let e = c .before .before .before .marked-at .ensures ∙ ap (λ (n : ℕ). markedAt (a .marks .now) n (a .k)) (c .before .before .before .before .record-count .ensures) in
-    let h : markedAt (a .marks .now) (recordCount (a .s .layout) (a .batch .now)) (a .k) < recordCount (a .s .layout) (a .batch .now) = search needs in
-    rw e h
+record-requires c κs = search needs
+
+mul-append : tie.Need-mul-append
+mul-append c = search needs
+
+shared-slice-read-append : tie.Need-shared-slice-read-append
+shared-slice-read-append c = let b = c .before .before .before .before .before .before .before .before .before .before in omega (arith, b .pre .1 .0 .size, b .pre .1 .0 .fits, b .pre .1 .1 .0 .1)
 
 append-requires : tie.Need-append-requires
-unfolding withSlots withCounters
+unfolding withSlots withCounters recordKey keyIn
 append-requires c κs =
-    let b = c .before .before .before .before .before .before .before .before .before in
+    let b = c .before .before .before .before .before .before .before .before .before .before in
     let a = b .args in
+    let i = getD (a .order .now) (a .k) 0 in
+    let r = c .before .«record» .result .now in
+    let there = b .pre .1 .1 .0 .1 in
     let n = a .s .«slot_highwater» + a .k in
-    let e = c .before .before .before .before .marked-at .ensures ∙ ap (λ (n : ℕ). markedAt (a .marks .now) n (a .k)) (c .before .before .before .before .before .record-count .ensures) in
-    let h : markedAt (a .marks .now) (recordCount (a .s .layout) (a .batch .now)) (a .k) < recordCount (a .s .layout) (a .batch .now) = search needs in
-    let fit : Shaped (a .s) (a .image .now) = search needs in
     let room : n < a .s .layout .«slot_capacity» = search needs in
-    let whole : length (c .«record» .result .now) ≡ a .s .layout .«slot_size» =
-    ap length (c .«record» .ensures ∙ ap (recordAt (a .s .layout) (a .batch .now)) e) ∙ record-length (a .s .layout) (a .batch .now) _ h in
-    subst (λ (t : Shape). Shaped t (a .image .now) × ((t .«slot_highwater» < t .layout .«slot_capacity») × (length (c .«record» .result .now) ≡ t .layout .«slot_size»)))
-    (sym (c .before .with-slots .ensures)) (slots-shaped (a .s) (a .image .now) fit n (omega arith) (omega arith), (room, whole))
+    let whole : length r ≡ a .s .layout .«slot_size» = ap length (c .before .«record» .ensures) ∙ record-length (a .s .layout) (a .batch .now) i there in
+    let hashed : getD (a .hashes .now) i 0 ≡ fnv1a64 (keyIn (a .s .layout) r) =
+    b .pre .1 .0 .each i there ∙ ap (λ r. fnv1a64 (keyIn (a .s .layout) r)) (sym (c .before .«record» .ensures)) in
+    subst (λ (t : Shape). Shaped t (a .image .now) × ((t .«slot_highwater» < t .layout .«slot_capacity») × ((length r ≡ t .layout .«slot_size») × (getD (a .hashes .now) i 0 ≡ fnv1a64 (keyIn (t .layout) r)))))
+    (sym (c .before .before .with-slots .ensures)) (slots-shaped (a .s) (a .image .now) (b .pre .0) n (omega arith) (omega arith), (room, (whole, hashed)))
 
 same-length : tie.Need-same-length
 same-length c = search needs
@@ -58,21 +64,22 @@ same-length c = search needs
 returns : tie.Need-returns
 unfolding oneAppended
 returns c =
-    let a = c .before .before .before .before .before .before .before .before .before .before .before .before .args in
-    let e = c .before .before .before .before .before .before .before .marked-at .ensures ∙ ap (λ (n : ℕ). markedAt (a .marks .now) n (a .k)) (c .before .before .before .before .before .before .before .before .record-count .ensures) in
+    let a = c .before .before .before .before .before .before .before .before .before .before .before .before .before .args in
     c .before .before .append .ensures
-    ∙ ap₂ (λ (t : Shape) (r : List ℕ). appended t (a .image .now) r) (c .before .before .before .before .with-slots .ensures)
-    (c .before .before .before .«record» .ensures ∙ ap (recordAt (a .s .layout) (a .batch .now)) e)
+    ∙ ap₂ (λ (t : Shape) (r : List ℕ). appended t (a .image .now) r) (c .before .before .before .before .before .with-slots .ensures) (c .before .before .before .before .«record» .ensures)
 
 pub append-one-spec : {M : Type 1} → statement M
 append-one-spec =
     tie.close
     (tie.spec
-    record-count-requires
-    marked-at-requires
+    mul-i
+    shared-slice-read-i
+    cast-i
     add-with-slots
     with-slots-requires
     record-requires
+    mul-append
+    shared-slice-read-append
     append-requires
     same-length
     returns)

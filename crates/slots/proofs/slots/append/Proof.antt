@@ -1,9 +1,16 @@
 -- `slots::slots::append` meets its contract.
 -- Assumes nothing.
+use Prim.Native.Nat.{ℕ}
+use mathlib.Core.Path.{sym, ap, _∙_}
+use mathlib.Core.List.{List}
 use borrow.Author.Needs.{needs}
 use native.Mathlib.Omega.{arith}
+use Rattle.numbers.specs.Bytes.{put}
+use Rattle.digests.specs.Fnv.{fnv1a64}
+use Rattle.image.specs.Table.{keyOf}
 use Rattle.image.proofs.Places.{slot-inside}
 use Rattle.slots.specs.Slots.{appended}
+use Rattle.slots.proofs.Table.Appended.{mid-new}
 use Rattle.slots.proofs.slots.append.Statement.{statement}
 use Rattle.slots.proofs.slots.append.Tie as tie
 
@@ -18,12 +25,19 @@ copy-to-requires c κs =
     omega (
       arith,
       c .before .slot-at .ensures,
-      b .pre .1 .1,
+      b .pre .1 .1 .0,
       slot-inside (b .args .s .layout) (b .args .image .now) (b .pre .0 .laid) (b .args .s .«slot_highwater») (b .pre .1 .0),
     )
 
 index-slot-requires : tie.Need-index-slot-requires
-index-slot-requires c κs = search needs
+index-slot-requires c κs =
+    let b = c .before .before .before .before .before .before .before .before in
+    let a = b .args in
+    let l = a .s .layout in
+    let n = a .s .«slot_highwater» in
+    let made = c .before .before .before .copy-to .ensures ∙ ap (λ (at : ℕ). put (a .image .now) at (a .«record» .now)) (c .before .before .before .before .before .slot-at .ensures) in
+    let key = ap (λ (i : List ℕ). keyOf l i n) made ∙ mid-new (a .s) (a .image .now) (b .pre .0) (b .pre .1 .0) (a .«record» .now) (b .pre .1 .1 .0) .key in
+    (search needs, (search needs, b .pre .1 .1 .1 ∙ ap fnv1a64 (sym key)))
 
 same-length : tie.Need-same-length
 same-length c = search needs

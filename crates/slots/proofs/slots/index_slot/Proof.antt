@@ -17,33 +17,27 @@ use Rattle.slots.proofs.slots.index_slot.Tie as tie
 
 -- where the function began
 abbrev start : tie.After-place-of → tie.Start
-start c = c .before .before .before .before .before .before
+start c = c .before .before .before
 
 -- the key that the slot has
 abbrev key : tie.After-place-of → List ℕ
 key c = keyOf (start c .args .s .layout) (start c .args .image .now) (start c .args .n)
 
-hashed : (c : tie.After-place-of) → c .before .before .fnv1a64-of .result ≡ fnv1a64 (key c)
-hashed c = c .before .before .fnv1a64-of .ensures ∙ ap fnv1a64 (c .before .before .before .key-of .ensures)
+hashed : (c : tie.After-place-of) → start c .args .hash ≡ fnv1a64 (key c)
+hashed c = start c .pre .1 .1
 
 -- the bucket is the key's place
 found : (c : tie.After-place-of) → c .place-of .result ≡ place (tableOf (start c .args .s) (start c .args .image .now)) (key c)
 found c =
     let a = start c .args in
-    place-by-hash (a .s) (a .image .now) (key c) (c .before .before .fnv1a64-of .result) (c .place-of .result) (hashed c) (c .place-of .ensures)
+    place-by-hash (a .s) (a .image .now) (key c) (a .hash) (c .place-of .result) (hashed c) (c .place-of .ensures)
 
 inside : (c : tie.After-place-of) → bucketAt (start c .args .s .layout) (c .place-of .result) + 16 ≤ length (start c .args .image .now)
 inside c =
     let a = start c .args in
     let pre = start c .pre in
     subst (λ (b : ℕ). bucketAt (a .s .layout) b + 16 ≤ length (a .image .now)) (sym (found c))
-    (bucket-inside (a .s .layout) (a .image .now) (pre .0 .laid) _ (bucket-below (a .s) (a .image .now) (pre .0) (a .n) (pre .1)))
-
-key-of-requires : tie.Need-key-of-requires
-key-of-requires c κs = search needs
-
-fnv1a64-of-requires : tie.Need-fnv1a64-of-requires
-fnv1a64-of-requires c κs = search needs
+    (bucket-inside (a .s .layout) (a .image .now) (pre .0 .laid) _ (bucket-below (a .s) (a .image .now) (pre .0) (a .n) (pre .1 .0)))
 
 place-of-requires : tie.Need-place-of-requires
 place-of-requires c κs = search needs
@@ -76,14 +70,12 @@ returns c =
     let a = start b .args in
     let pre = start b .pre in
     let there = bucket .bucket-at .ensures ∙ ap (bucketAt (a .s .layout)) (found b) in
-    indexes (a .s) (a .image .now) (pre .0) (a .n) (pre .1) there (hashed b) (first .put-u64 .ensures) (second .put-u642 .ensures)
+    indexes (a .s) (a .image .now) (pre .0) (a .n) (pre .1 .0) there (hashed b) (first .put-u64 .ensures) (second .put-u642 .ensures)
 
 pub index-slot-spec : {M : Type 1} → statement M
 index-slot-spec =
     tie.close
     (tie.spec
-    key-of-requires
-    fnv1a64-of-requires
     place-of-requires
     bucket-at-requires
     put-u64-requires
