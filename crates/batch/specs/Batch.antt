@@ -16,9 +16,9 @@ use Rattle.header.specs.Sizes.{align8, slotSize}
 abbrev pub SlotSized : Layout → Type 0
 SlotSized l = l .«slot_size» ≡ slotSize (l .«key_size») (l .«index_size»)
 
--- "batch 0 to 64 records"
+-- "batch 0 to 1,024 records" (CR 5)
 abbrev pub most-records : ℕ
-most-records = 64
+most-records = 1024
 
 -- how many records a batch has, and record i
 unfoldable pub recordCount : Layout → List ℕ → ℕ
@@ -52,7 +52,7 @@ malformed l r =
 unfoldable pub someMalformed : Layout → List ℕ → Bool
 someMalformed l batch = not (allTo (recordCount l batch) (λ i. not (malformed l (recordAt l batch i))))
 
--- "batch length no multiple of slot_size, over 64 records, or a malformed record"
+-- "batch length no multiple of slot_size, over 1,024 records, or a malformed record" (CR 5)
 unfoldable pub batchWrong : Layout → List ℕ → Bool
 batchWrong l batch =
     not (eqb (length batch % l .«slot_size») 0) || ltb most-records (recordCount l batch)

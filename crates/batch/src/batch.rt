@@ -11,7 +11,7 @@ use numbers::parts::all_zero;
 use numbers::words::u64_at;
 
 // A batch has 0 to so many records.
-pub const MOST_RECORDS: usize = 64;
+pub const MOST_RECORDS: usize = 1024;
 
 // 1 where the test passes, else 0.
 pub fn one_if(test: bool) -> usize

@@ -28,7 +28,7 @@ fallsBehind s image batch =
     (allTo (recordCount (s .layout) batch)
     (λ i. not (isNew (s .layout) (isLive s image) batch i && below (recordKey (s .layout) batch i) (keyOf (s .layout) image (s .«slot_highwater» - 1)))))
 
--- "batch length no multiple of slot_size, over 64 records, or a malformed record: 7. Full check fails: 1."
+-- "batch length no multiple of slot_size, over 1,024 records, or a malformed record: 7. Full check fails: 1." (CR 5)
 unfoldable pub soundTests : Shape → List ℕ → List ℕ → List (Bool × ℕ)
 soundTests s image batch = (batchWrong (s .layout) batch, invalid-input) ∷ (not (passes s image), needs-rebuild) ∷ []
 

@@ -12,9 +12,9 @@ abbrev pub most-index-size : ℕ
 most-index-size = 256
 
 abbrev pub most-slot-capacity : ℕ
-most-slot-capacity = 4096
+most-slot-capacity = 1048576
 
--- "key_size 1 to 64, index_size 0 to 256, slot_capacity 1 to 4,096"
+-- "key_size 1 to 64, index_size 0 to 256, slot_capacity 1 to 1,048,576" (CR 5)
 unfoldable pub sizesAllowed : Options → Bool
 sizesAllowed o =
     leb 1 (o .«key_size») && leb (o .«key_size») most-key-size && leb (o .«index_size») most-index-size

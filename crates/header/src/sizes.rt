@@ -10,7 +10,7 @@ const MOST_KEY_SIZE: u64 = 64;
 
 const MOST_INDEX_SIZE: u64 = 256;
 
-const MOST_SLOT_CAPACITY: u64 = 4096;
+const MOST_SLOT_CAPACITY: u64 = 1048576;
 
 // Whether the sizes of the options are allowed.
 pub fn sizes_allowed(o: Options) -> bool

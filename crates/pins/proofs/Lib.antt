@@ -1,3 +1,4 @@
+pub mod MostRecords
 pub mod StoriesComputed
 pub mod Story
 pub mod Pins

@@ -29,6 +29,7 @@ use Rattle.commit.specs.Commit.{fallsBehind, soundTests, roomTests, furtherTest
 use Rattle.pins.specs.Story.{Steps}
 use Rattle.pins.specs.OrderedStory.{OrderedSteps}
 use Rattle.pins.specs.Refusals.{HeaderRefusals, FurtherRefusals, CheckRefusals}
+use Rattle.pins.proofs.MostRecords.{most-records-pass}
 
 -- all that is computed with
 computed : Unit {0}
@@ -89,7 +90,7 @@ header-refusals =
       key-65 = refl;
       index-257 = refl;
       capacity-0 = refl;
-      capacity-4097 = refl;
+      capacity-1048577 = refl;
       ordered-2 = refl;
       role-3 = refl;
       largest = refl;
@@ -145,8 +146,8 @@ further-refusals =
       a-put = refl;
       a-delete = refl;
       cut = refl;
-      records-64 = refl;
-      records-65 = refl;
+      records-1024 = most-records-pass;
+      records-1025 = refl;
       meta-2 = refl;
       key-padding = refl;
       index-padding = refl;

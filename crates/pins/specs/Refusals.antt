@@ -34,10 +34,10 @@ pub record HeaderRefusals : Type 0 where
   pub key-65 : firstOf (test1 (optionsOf 65 1 3 7 0 0)) ≡ 7
   pub index-257 : firstOf (test1 (optionsOf 1 257 3 7 0 0)) ≡ 7
   pub capacity-0 : firstOf (test1 (optionsOf 1 1 0 7 0 0)) ≡ 7
-  pub capacity-4097 : firstOf (test1 (optionsOf 1 1 4097 7 0 0)) ≡ 7
+  pub capacity-1048577 : firstOf (test1 (optionsOf 1 1 1048577 7 0 0)) ≡ 7
   pub ordered-2 : firstOf (test1 (optionsOf 1 1 3 7 2 0)) ≡ 7
   pub role-3 : firstOf (test1 (optionsOf 1 1 3 7 0 3)) ≡ 7
-  pub largest : firstOf (test1 (optionsOf 64 256 4096 7 1 2)) ≡ 0
+  pub largest : firstOf (test1 (optionsOf 64 256 1048576 7 1 2)) ≡ 0
   -- "2. Length 0: 10. Length 1 to 255: 1."
   pub length-0 : firstOf (test2 []) ≡ 10
   pub length-1 : firstOf (test2 (take 1 image6)) ≡ 1
@@ -95,14 +95,14 @@ pub record FurtherRefusals : Type 0 where
   pub not-clean : firstOf (cleanTest image5) ≡ 0
   pub last-generation : firstOf (generationTest (put image5 0x40 (words 8 (0xFFFFFFFFFFFFFFFE ∷ [])))) ≡ 1
   pub one-before : firstOf (generationTest (put image5 0x40 (words 8 (0xFFFFFFFFFFFFFFFC ∷ [])))) ≡ 0
-  -- "batch length no multiple of slot_size, over 64 records, or a malformed record": meta neither 0 nor 1, padding that is not
-  -- zero, a delete with a revision or an index
+  -- "batch length no multiple of slot_size, over 1,024 records, or a malformed record" (CR 5): meta neither 0 nor 1, padding that
+  -- is not zero, a delete with a revision or an index
   pub empty : batchWrong (s .layout) [] ≡ false
   pub a-put : batchWrong (s .layout) (slot 1 64 1 1) ≡ false
   pub a-delete : batchWrong (s .layout) (slot 0 64 0 0) ≡ false
   pub cut : batchWrong (s .layout) (take 31 (slot 1 64 1 1)) ≡ true
-  pub records-64 : batchWrong (s .layout) (zeros 256) ≡ false
-  pub records-65 : batchWrong (s .layout) (zeros 260) ≡ true
+  pub records-1024 : batchWrong (s .layout) (zeros 4096) ≡ false
+  pub records-1025 : batchWrong (s .layout) (zeros 4100) ≡ true
   pub meta-2 : batchWrong (s .layout) (slot 2 64 1 1) ≡ true
   pub key-padding : batchWrong (s .layout) (slot 1 0x0140 1 1) ≡ true
   pub index-padding : batchWrong (s .layout) (slot 1 64 1 0x0101) ≡ true
