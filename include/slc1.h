@@ -25,8 +25,9 @@
  * The shared object's name has that number. SLC1_VERSION is "major.minor.patch".
  * What each major number changed for a host:
  *   2  a match of 0 bits compares the whole pattern; before, it was refused with 7
- *   3  an image is lent with exactly slc1_total_size bytes; before, bytes past these were ignored */
-#define SLC1_VERSION_MAJOR 3
+ *   3  an image is lent with exactly slc1_total_size bytes; before, bytes past these were ignored
+ *   4  larger images and batches are taken; before, more than 4,096 slots or 64 records were refused with 7 */
+#define SLC1_VERSION_MAJOR 4
 #define SLC1_VERSION_MINOR 0
 #define SLC1_VERSION_PATCH 0
 #define SLC1_VERSION SLC1_DOTTED(SLC1_VERSION_MAJOR, SLC1_VERSION_MINOR, SLC1_VERSION_PATCH)
@@ -61,12 +62,16 @@ enum {
     SLC1_LOCK_HELD = 2        /* accepts one: true only where the caller has held the lock since it became DIRTY */
 };
 
+/* An image has at most so many slots, and a batch at most so many records. */
+#define SLC1_CAPACITY_LIMIT 1048576
+#define SLC1_BATCH_LIMIT 1024
+
 /* The options. Calls take them as six numbers, which SLC1_OPTIONS spells out, evaluating its argument more than once:
  *     slc1_full_check(image, length, SLC1_OPTIONS(&options)) */
 typedef struct slc1_options {
     uint64_t key_size;      /* 1 to 64 bytes */
     uint64_t index_size;    /* 0 to 256 bytes */
-    uint64_t slot_capacity; /* 1 to 4096 slots */
+    uint64_t slot_capacity; /* 1 to SLC1_CAPACITY_LIMIT slots */
     uint64_t user_version;  /* any number */
     uint64_t ordered;       /* 0, or 1: keys never fall */
     uint64_t role;          /* 0, 1 or 2, as above */
@@ -254,16 +259,14 @@ uint32_t slc1_invalidate(uint8_t *image, size_t length, SLC1_SIX_NUMBERS);
 uint32_t slc1_set_user_fields(
     uint8_t *image, size_t length, SLC1_SIX_NUMBERS, uint64_t user_flags, const uint8_t *user_data, size_t data_length);
 
-#define SLC1_BATCH_LIMIT 64
-
-/* Commits a batch of 0 to 64 records, one after the other, each laid out as a slot (above). A delete has revision and
- * index zero. The last record for a key decides. A put on a live key keeps its slot; a delete of a key that is not there is
- * no error; a deleted key's slot is never used again, not even for that key: only a fresh image has it free.
+/* Commits a batch of 0 to SLC1_BATCH_LIMIT records, one after the other, each laid out as a slot (above). A delete has
+ * revision and index zero. The last record for a key decides. A put on a live key keeps its slot; a delete of a key that is
+ * not there is no error; a deleted key's slot is never used again, not even for that key: only a fresh image has it free.
  *
  * 0, or the first reason that holds: the header test's number; 4 or 7 by the role; 7 on CLEAN (begin first); 1 where the
- * generation is used up; 7 for a batch of another length, over 64 records or with a malformed record; 1 where the full
- * check fails; 5 where the new keys outnumber the slots left; 6 where the image is ordered and a new key is below the key
- * of its last slot. */
+ * generation is used up; 7 for a batch of another length, over SLC1_BATCH_LIMIT records or with a malformed record; 1 where
+ * the full check fails; 5 where the new keys outnumber the slots left; 6 where the image is ordered and a new key is below
+ * the key of its last slot. */
 uint32_t slc1_commit(uint8_t *image, size_t length, SLC1_SIX_NUMBERS, const uint8_t *batch, size_t batch_length);
 
 /* Revision age. */

@@ -62,10 +62,14 @@ def crc32c(data):
     return register ^ 0xFFFFFFFF
 
 
+# "Raise slot_capacity to 1,048,576 and the batch to 1,024 records." (CR 5)
+CAPACITY_LIMIT, BATCH_LIMIT = 1048576, 1024
+
+
 def options_fit(o):
-    # "key_size 1 to 64, index_size 0 to 256, slot_capacity 1 to 4,096, [...] ordered (0 or 1)"
-    return (1 <= o.key_size <= 64 and 0 <= o.index_size <= 256 and 1 <= o.slot_capacity <= 4096
-            and 0 <= o.ordered <= 1 and 0 <= o.role <= 2)
+    # "key_size 1 to 64, index_size 0 to 256, slot_capacity 1 to [...], [...] ordered (0 or 1)"
+    return (1 <= o.key_size <= 64 and 0 <= o.index_size <= 256
+            and 1 <= o.slot_capacity <= CAPACITY_LIMIT and 0 <= o.ordered <= 1 and 0 <= o.role <= 2)
 
 
 def to_multiple_of_8(size):
@@ -493,9 +497,9 @@ def actions(table, batch):
 
 def commit_tests(image, o, batch):
     yield from publishing_tests(image, o)
-    # "batch length no multiple of slot_size, over 64 records, or a malformed record: 7."
+    # "batch length no multiple of slot_size, over [...] records, or a malformed record: 7."
     yield len(batch) % slot_size(o) != 0, 7
-    yield len(batch) > 64 * slot_size(o), 7
+    yield len(batch) > BATCH_LIMIT * slot_size(o), 7
     yield any(malformed(slot_parts(o, record)) for record in records(o, batch)), 7
     # "Full check fails: 1."
     yield full_check(image, o).answer != 0, 1

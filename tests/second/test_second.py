@@ -416,7 +416,7 @@ class Readings(Case):
         self.assert_refused(1, commit, self.image, BASE, b"")
 
     def test_reading_10_over_64_records_after_role_and_generation(self):
-        over = delete(BASE, b"abc") * 65
+        over = delete(BASE, b"abc") * 1025
         self.assertEqual(commit(self.image, BASE, over[32:]), 0)
         self.assert_refused(7, commit, self.image, BASE, over)
         self.assert_refused(4, commit, self.image, BASE._replace(role=1), over)
@@ -525,7 +525,7 @@ def field_faults(test, number, *fields):
 FAULTS = [
     *(Fault(1, 7, {name: value}) for name, value in (
         ("key_size", 0), ("key_size", 65), ("index_size", 257), ("slot_capacity", 0),
-        ("slot_capacity", 4097), ("ordered", 2), ("role", 3), ("key_size", 2**64 - 1),
+        ("slot_capacity", 1048577), ("ordered", 2), ("role", 3), ("key_size", 2**64 - 1),
         ("index_size", 2**64 - 1), ("slot_capacity", 2**64 - 1), ("role", 2**64 - 1))),
     Fault(2, 10, length=0), Fault(2, 1, length=1), Fault(2, 1, length=255),
     *field_faults(3, 2, {"magic": 0}, {"version": 2}, {"header_size": 128}, {"hash_alg": 0}),
@@ -609,7 +609,7 @@ class Refusals(Case):
         broken = bytearray(image)
         set_meta(broken, o, 0, 2)
         self.assert_refused(7, commit, broken, o, low + high + b"\0")
-        self.assert_refused(7, commit, broken, o, low * 65)
+        self.assert_refused(7, commit, broken, o, low * 1025)
         self.assert_refused(1, commit, broken, o, low + high)
         self.assert_refused(5, commit, image, o, low + high)
         self.assert_refused(6, commit, image, o, low)
