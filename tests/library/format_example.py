@@ -21,9 +21,12 @@ def blocks(page):
     return dict(re.findall(r"^```text (\w+)\n(.*?)^```$", page, re.M | re.S))
 
 
+def total_size(program, o):
+    return native.places(o, 0)[0] if program is native else second.total_size(o)
+
+
 def fresh(program, o):
-    total = native.places(o, 0)[0] if program is native else second.total_size(o)
-    image = bytearray(total)
+    image = bytearray(total_size(program, o))
     assert program.create(image, o) == 0
     return image
 
@@ -44,6 +47,15 @@ def sizes(program, block):
     yield equation("bucket_count", f"2 x {o.slot_capacity}", count) + ", a power of two"
     yield equation("buckets_offset", f"256 + {o.slot_capacity} x {slot}", offset)
     yield equation("total size", f"{offset:,} + 16 x {count:,}", len(image))
+
+
+def largest(program, block):
+    limit = BENCH._replace(slot_capacity=second.CAPACITY_LIMIT)
+    yield f"slot_capacity {limit.slot_capacity:,}, bucket_count {second.bucket_count(limit):,}"
+    yield ""
+    for key, index in ((BENCH.key_size, BENCH.index_size), (64, 256)):
+        total = total_size(program, limit._replace(key_size=key, index_size=index))
+        yield f"key_size {key}, index_size {index}: total size {total:,}"
 
 
 def digests(program, block):
@@ -126,7 +138,7 @@ def main():
     with open(PAGE, encoding="utf-8") as file:
         page = file.read()
     stands, lines = blocks(page), 0
-    for name, drawn_up in (("sizes", sizes), ("digests", digests), ("example", example)):
+    for name, drawn_up in (("sizes", sizes), ("largest", largest), ("digests", digests), ("example", example)):
         if name not in stands:
             sys.exit(f"docs/format.md has no block {name}")
         for program in (second, native):
