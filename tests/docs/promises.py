@@ -10,7 +10,7 @@ sys.path.append(sys.path[0] + "/../proofs")
 
 from wrong_programs import ROOT, calls, crates, helpers, wrong_programs
 
-OUTSIDE = ("crates/", "tests/", "tools/", "examples/", "docs/", "include/", "target/", ".ci/", "crates.txt")
+OUTSIDE = ("crates/", "tests/", "tools/", "examples/", "docs/", "include/", "speed/", "target/", ".ci/", "crates.txt")
 
 
 def read(path):

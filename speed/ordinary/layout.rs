@@ -1,0 +1,122 @@
+//! Where slots and buckets lie in an image, and how they are read and written.
+
+#[derive(Clone, Copy)]
+pub struct Options {
+    pub key_size: u64,
+    pub index_size: u64,
+    pub slot_capacity: u64,
+    pub user_version: u64,
+    pub ordered: u64,
+    pub role: u64,
+}
+
+pub const HEADER_SIZE: usize = 256;
+pub const BUCKET_SIZE: usize = 16;
+pub const KEY_AT: usize = 8;
+
+/// Values of slot_plus1; any other is FULL.
+pub const EMPTY: u64 = 0;
+pub const TOMBSTONE: u64 = u64::MAX;
+
+#[derive(Clone, Copy)]
+pub struct Layout {
+    pub key_size: usize,
+    pub index_size: usize,
+    pub slot_size: usize,
+    pub slot_capacity: usize,
+    pub bucket_count: usize,
+    pub buckets_offset: usize,
+    pub total_size: usize,
+    pub ordered: bool,
+}
+
+pub fn u32_at(bytes: &[u8], at: usize) -> u32 {
+    u32::from_le_bytes(bytes[at..at + 4].try_into().unwrap())
+}
+
+pub fn u64_at(bytes: &[u8], at: usize) -> u64 {
+    u64::from_le_bytes(bytes[at..at + 8].try_into().unwrap())
+}
+
+pub fn put_u64(bytes: &mut [u8], at: usize, value: u64) {
+    bytes[at..at + 8].copy_from_slice(&value.to_le_bytes());
+}
+
+fn up_to_8(size: usize) -> usize {
+    (size + 7) / 8 * 8
+}
+
+impl Layout {
+    /// None where the options are out of range.
+    pub fn of(options: &Options) -> Option<Layout> {
+        let allowed = (1..=64).contains(&options.key_size)
+            && options.index_size <= 256
+            && (1..=1_048_576).contains(&options.slot_capacity)
+            && options.ordered <= 1
+            && options.role <= 2;
+        if !allowed {
+            return None;
+        }
+        let key_size = options.key_size as usize;
+        let index_size = options.index_size as usize;
+        let slot_capacity = options.slot_capacity as usize;
+        let slot_size = KEY_AT + up_to_8(key_size) + 8 + up_to_8(index_size);
+        let bucket_count = (2 * slot_capacity).next_power_of_two();
+        let buckets_offset = HEADER_SIZE + slot_capacity * slot_size;
+        Some(Layout {
+            key_size,
+            index_size,
+            slot_size,
+            slot_capacity,
+            bucket_count,
+            buckets_offset,
+            total_size: buckets_offset + bucket_count * BUCKET_SIZE,
+            ordered: options.ordered == 1,
+        })
+    }
+
+    pub fn revision_at(&self) -> usize {
+        KEY_AT + up_to_8(self.key_size)
+    }
+
+    pub fn index_at(&self) -> usize {
+        self.revision_at() + 8
+    }
+
+    /// The key of a slot or of a record, which are laid out alike.
+    pub fn key_in<'a>(&self, slot: &'a [u8]) -> &'a [u8] {
+        &slot[KEY_AT..KEY_AT + self.key_size]
+    }
+
+    pub fn slot<'a>(&self, image: &'a [u8], slot: usize) -> &'a [u8] {
+        let at = HEADER_SIZE + slot * self.slot_size;
+        &image[at..at + self.slot_size]
+    }
+
+    pub fn slot_mut<'a>(&self, image: &'a mut [u8], slot: usize) -> &'a mut [u8] {
+        let at = HEADER_SIZE + slot * self.slot_size;
+        &mut image[at..at + self.slot_size]
+    }
+
+    pub fn home(&self, hash: u64) -> usize {
+        hash as usize & (self.bucket_count - 1)
+    }
+
+    pub fn next_bucket(&self, bucket: usize) -> usize {
+        (bucket + 1) & (self.bucket_count - 1)
+    }
+
+    /// hash64 and slot_plus1 of a bucket.
+    pub fn bucket(&self, image: &[u8], bucket: usize) -> (u64, u64) {
+        let at = self.buckets_offset + bucket * BUCKET_SIZE;
+        let words = &image[at..at + BUCKET_SIZE];
+        (u64_at(words, 0), u64_at(words, 8))
+    }
+
+    pub fn put_bucket(&self, image: &mut [u8], bucket: usize, hash64: u64, slot_plus1: u64) {
+        let at = self.buckets_offset + bucket * BUCKET_SIZE;
+        let words = &mut image[at..at + BUCKET_SIZE];
+        put_u64(words, 0, hash64);
+        put_u64(words, 8, slot_plus1);
+    }
+}

@@ -1,0 +1,78 @@
+//! The two implementations that are measured: the library, by its calls for C, and the ordinary one.
+
+use crate::ordinary;
+use crate::ordinary::layout::{Layout, Options};
+
+pub struct Side {
+    pub commit: fn(&mut [u8], &Options, &[u8]) -> u32,
+    pub full_check: fn(&[u8], &Options) -> u32,
+}
+
+/// The library first. They are called through pointers, so that neither is compiled for the options of a row.
+pub const SIDES: [Side; 2] = [
+    Side {
+        commit: library_commit,
+        full_check: library_full_check,
+    },
+    Side {
+        commit: ordinary::commit::commit,
+        full_check: ordinary::check::full_check,
+    },
+];
+
+/// Declares calls of slc1.h that are lent an image: its pointer and length, the options as six numbers, and what else a
+/// call takes.
+macro_rules! calls {
+    ($($name:ident(image: $image:ty $(, $more:ident: $kind:ty)*);)*) => {
+        extern "C" {
+            $(fn $name(
+                image: $image, length: usize, key_size: u64, index_size: u64, slot_capacity: u64, user_version: u64,
+                ordered: u64, role: u64 $(, $more: $kind)*
+            ) -> u32;)*
+        }
+    };
+}
+
+calls! {
+    slc1_create(image: *mut u8);
+    slc1_begin(image: *mut u8);
+    slc1_full_check(image: *const u8);
+    slc1_commit(image: *mut u8, batch: *const u8, batch_length: usize);
+}
+
+/// Makes such a call.
+macro_rules! call {
+    ($name:ident, $image:expr, $length:expr, $options:expr $(, $more:expr)*) => {
+        unsafe {
+            $name(
+                $image, $length, $options.key_size, $options.index_size, $options.slot_capacity, $options.user_version,
+                $options.ordered, $options.role $(, $more)*
+            )
+        }
+    };
+}
+
+fn library_commit(image: &mut [u8], options: &Options, batch: &[u8]) -> u32 {
+    call!(
+        slc1_commit,
+        image.as_mut_ptr(),
+        image.len(),
+        options,
+        batch.as_ptr(),
+        batch.len()
+    )
+}
+
+fn library_full_check(image: &[u8], options: &Options) -> u32 {
+    call!(slc1_full_check, image.as_ptr(), image.len(), options)
+}
+
+/// A fresh image, DIRTY, by the library.
+pub fn begun_image(options: &Options) -> Vec<u8> {
+    let layout = Layout::of(options).expect("options within the sizes");
+    let mut image = vec![0; layout.total_size];
+    let created = call!(slc1_create, image.as_mut_ptr(), image.len(), options);
+    let begun = call!(slc1_begin, image.as_mut_ptr(), image.len(), options);
+    assert_eq!((created, begun), (0, 0), "create and begin");
+    image
+}
