@@ -43,8 +43,8 @@ fn buckets_fit(image: &[u8], header: &Header) -> bool {
     let layout = &header.layout;
     let mut full = 0;
     let mut tombstones = 0;
-    for bucket in 0..layout.bucket_count {
-        match layout.bucket(image, bucket) {
+    for bucket in layout.buckets(image) {
+        match bucket {
             (_, EMPTY) => {}
             (_, TOMBSTONE) => tombstones += 1,
             (hash64, slot_plus1) => {
@@ -68,8 +68,8 @@ fn slots_fit(image: &[u8], header: &Header) -> bool {
     let layout = &header.layout;
     let mut live = 0;
     let mut last: &[u8] = &[];
-    for number in 0..header.slot_highwater {
-        let bytes = layout.slot(image, number);
+    let slots = layout.slots(image).take(header.slot_highwater);
+    for (number, bytes) in slots.enumerate() {
         let key = layout.key_in(bytes);
         match u64_at(bytes, 0) {
             0 => {}

@@ -46,6 +46,10 @@ fn up_to_8(size: usize) -> usize {
     (size + 7) / 8 * 8
 }
 
+fn bucket_in(bytes: &[u8]) -> (u64, u64) {
+    (u64_at(bytes, 0), u64_at(bytes, 8))
+}
+
 impl Layout {
     /// None where the options are out of range.
     pub fn of(options: &Options) -> Option<Layout> {
@@ -98,6 +102,11 @@ impl Layout {
         &mut image[at..at + self.slot_size]
     }
 
+    /// All slots, those not given out too.
+    pub fn slots<'a>(&self, image: &'a [u8]) -> impl Iterator<Item = &'a [u8]> {
+        image[HEADER_SIZE..self.buckets_offset].chunks_exact(self.slot_size)
+    }
+
     pub fn home(&self, hash: u64) -> usize {
         hash as usize & (self.bucket_count - 1)
     }
@@ -109,8 +118,13 @@ impl Layout {
     /// hash64 and slot_plus1 of a bucket.
     pub fn bucket(&self, image: &[u8], bucket: usize) -> (u64, u64) {
         let at = self.buckets_offset + bucket * BUCKET_SIZE;
-        let words = &image[at..at + BUCKET_SIZE];
-        (u64_at(words, 0), u64_at(words, 8))
+        bucket_in(&image[at..at + BUCKET_SIZE])
+    }
+
+    /// The same of all buckets.
+    pub fn buckets<'a>(&self, image: &'a [u8]) -> impl Iterator<Item = (u64, u64)> + 'a {
+        let buckets = &image[self.buckets_offset..];
+        buckets.chunks_exact(BUCKET_SIZE).map(bucket_in)
     }
 
     pub fn put_bucket(&self, image: &mut [u8], bucket: usize, hash64: u64, slot_plus1: u64) {
