@@ -43,7 +43,7 @@ fn serial(number: usize) -> Vec<u8> {
         number / 1_000 % 10_000,
         number % 1_000,
     );
-    format!("CM{}-{:04}-{:03}", line, week, sensor).into_bytes()
+    format!("CM{line}-{week:04}-{sensor:03}").into_bytes()
 }
 
 fn serials(numbers: std::ops::Range<usize>) -> Vec<Vec<u8>> {
@@ -126,7 +126,7 @@ impl Case {
 /// full check.
 fn load(image: &mut [u8], options: &Options, batch: &[u8]) {
     let header = Header::judge(image, options)
-        .map_err(|number| format!("header test: {}", number))
+        .map_err(|number| format!("header test: {number}"))
         .unwrap();
     Plan::of(image, &header, batch).act(image, header);
 }

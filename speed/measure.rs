@@ -55,7 +55,7 @@ fn by_turns(
         let answer = call(side, copy);
         times.push(began.elapsed().as_nanos() as f64);
         if answer != 0 {
-            return Err(format!("a call that is measured answers {}", answer));
+            return Err(format!("a call that is measured answers {answer}"));
         }
     }
     if copies[0] != copies[1] {

@@ -60,7 +60,7 @@ fn commit_by_both(image: &[u8], options: &Options, batch: &[u8]) -> Result<Vec<u
     Ok(library.2)
 }
 
-fn try_images(random: &mut Random, ordered: u64) -> Result<(), String> {
+fn try_image(random: &mut Random, ordered: u64) -> Result<(), String> {
     let options = options(random, ordered);
     let layout = Layout::of(&options).expect("options within the sizes");
     let mut image = begun_image(&options);
@@ -78,7 +78,7 @@ fn try_images(random: &mut Random, ordered: u64) -> Result<(), String> {
 pub fn try_random_batches(images: usize) -> Result<usize, String> {
     let mut random = Random(1);
     for number in 0..images {
-        try_images(&mut random, number as u64 % 2)?;
+        try_image(&mut random, number as u64 % 2)?;
     }
     Ok(2 * COMMITS * images)
 }
