@@ -9,12 +9,13 @@ mod table;
 
 use cases::{Case, Keys};
 use measure::{measure, Measured};
+use ordinary::commit::BATCH_LIMIT;
+use ordinary::layout::CAPACITY_LIMIT;
 use table::{heading, row, rows_by_size, Reading};
 
-const SIZES: [usize; 3] = [64, 256, 1024];
+const SIZES: [usize; 3] = [64, 256, BATCH_LIMIT];
 const SLOT_CAPACITY: u64 = 4096;
 const LIVE: usize = 1000;
-const LARGE_SLOT_CAPACITY: u64 = 1_048_576;
 const LARGE_LIVE: usize = 524_288;
 
 const KINDS: [(&str, bool, Keys); 4] = [
@@ -93,14 +94,19 @@ fn small_image(rounds: usize) -> Result<(), String> {
 
 fn large_image(rounds: usize) -> Result<(), String> {
     let keys = Keys::SerialsRising;
-    let case = Case::of(LARGE_SLOT_CAPACITY, LARGE_LIVE, false, keys, 1024);
+    let case = Case::of(CAPACITY_LIMIT, LARGE_LIVE, false, keys, BATCH_LIMIT);
     let measured = measure(&case, rounds)?;
     println!("\nMilliseconds on the largest image");
-    println!("slot_capacity {LARGE_SLOT_CAPACITY}, {LARGE_LIVE} live keys; {rounds} rounds.");
+    println!("slot_capacity {CAPACITY_LIMIT}, {LARGE_LIVE} live keys; {rounds} rounds.");
     heading("unordered, serials rising", "records");
     row("full check", "", &measured.full_check, 1e6);
     row("commit", "0", &measured.empty_commit, 1e6);
-    row("commit of new keys", "1024", &measured.commit, 1e6);
+    row(
+        "commit of new keys",
+        &BATCH_LIMIT.to_string(),
+        &measured.commit,
+        1e6,
+    );
     Ok(())
 }
 

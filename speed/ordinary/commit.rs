@@ -8,7 +8,7 @@ use super::digests::fnv1a64;
 use super::header::{Header, DONE, FULL, INVALID_INPUT, NEEDS_REBUILD, OUT_OF_ORDER};
 use super::layout::{put_u64, u64_at, Layout, Options, EMPTY, KEY_AT, TOMBSTONE};
 
-const BATCH_LIMIT: usize = 1024;
+pub const BATCH_LIMIT: usize = 1024;
 
 /// A key with the hash that the format asks for, which serves the set of keys too.
 #[derive(Clone, Copy, PartialEq, Eq)]

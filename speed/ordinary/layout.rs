@@ -10,6 +10,8 @@ pub struct Options {
     pub role: u64,
 }
 
+pub const CAPACITY_LIMIT: u64 = 1_048_576;
+
 pub const HEADER_SIZE: usize = 256;
 pub const BUCKET_SIZE: usize = 16;
 pub const KEY_AT: usize = 8;
@@ -55,7 +57,7 @@ impl Layout {
     pub fn of(options: &Options) -> Option<Layout> {
         let allowed = (1..=64).contains(&options.key_size)
             && options.index_size <= 256
-            && (1..=1_048_576).contains(&options.slot_capacity)
+            && (1..=CAPACITY_LIMIT).contains(&options.slot_capacity)
             && options.ordered <= 1
             && options.role <= 2;
         if !allowed {
