@@ -178,7 +178,15 @@ fn settle(image: &mut [u8], s: Shape)
 }
 
 // Commits a batch that passed every test, by what was found out of it.
-pub fn apply(image: &mut [u8], s: Shape, batch: &[u8], hashes: &[u64], turns: &[u8], order: &[u16], count: usize)
+pub fn apply(
+    image: &mut [u8],
+    s: Shape,
+    batch: &[u8],
+    hashes: &[u64],
+    turns: &[u8],
+    order: &[u16],
+    count: usize,
+)
     requires { ⌜ Shaped s (now image) ⌝ }
     requires { ⌜ value (now image) generation + 2 < 2 ^ 64 ⌝ }
     requires { ⌜ Prepared s (now image) (now batch) (now hashes) (now turns) (now order) count ⌝ }

@@ -1,42 +1,40 @@
 -- The index over the records of a batch: what its entries say, and what one record more makes of it.
 -- Assumes nothing.
 use Prim.Native.Nat.{ℕ, zero, suc, _+_, _-_, _≤_, _<_}
-use mathlib.Core.Bool.{Bool, true, false, cond, _&&_}
-use mathlib.Core.Path.{_≡_, refl, sym, ap, ap₂, subst, _∙_}
+use mathlib.Core.Bool.{Bool, true, false, _&&_}
+use mathlib.Core.Path.{_≡_, refl, sym, ap, _∙_}
 use mathlib.Core.Logic.{_⊎_, inl, inr}
 use mathlib.Core.List.{List, []}
 use native.Mathlib.Decide.{ℕ-discrete}
-use native.Mathlib.Nat.{mod-lt}
 use native.Mathlib.Numerals.{add-one}
 use native.Mathlib.Omega.{arith}
 use lib.Dec.{eqb, ltb}
-use lib.ListN.{length, set, getD, length-set}
+use lib.ListN.{set, getD, length-set}
 use lib.Seq.{getD-set-same, getD-set-other}
-use borrow.Author.Tests.{ltb-true, eqb-true}
+use borrow.Author.Tests.{ltb-true}
 use Rattle.numbers.specs.Bytes.{same}
 use Rattle.digests.specs.Fnv.{fnv1a64}
 use Rattle.probing.specs.Counting.{one}
-use Rattle.probing.specs.Table.{Bucket, EMPTY, FULL, Table, live, liveCount, tombstoneCount}
-use Rattle.probing.specs.Sound.{Sound}
+use Rattle.probing.specs.Table.{EMPTY, FULL, Table, live, liveCount, tombstoneCount}
 use Rattle.probing.specs.Change.{update, place, placed, rebuiltTo}
 use Rattle.probing.specs.Stop.{stopsAt, stop}
 use Rattle.probing.proofs.Counting.{count-le}
 use Rattle.probing.proofs.Change.{by-update}
-use Rattle.probing.proofs.Keys.{clash, not-both, not-true-false, and-both, same-eq}
+use Rattle.probing.proofs.Keys.{clash, not-true-false, and-both, same-eq}
 use Rattle.probing.proofs.Place.{place-same}
 use Rattle.probing.proofs.Placed.{upTo}
 use Rattle.probing.proofs.Rebuild.{over, rebuilt-over, Built, built}
 use Rattle.probing.proofs.Stop.{stop-below, stop-agree, Vacant, Held, stopped, stop-is-place}
 use Rattle.header.specs.declared.shape.Layout.{Layout}
 use Rattle.batch.specs.Batch.{most-records, recordCount, recordKey, decides}
-use Rattle.batch.specs.Index.{index-size, following, entryBucket, recordTable, Entries, Indexed}
+use Rattle.batch.specs.Index.{index-size, following, entryBucket, recordTable, Indexed}
 use Rattle.batch.proofs.Deciding.{decides-last, last-decides, one-decides, deciding}
 use Rattle.batch.proofs.Every.{flag-up}
 use Rattle.batch.proofs.Noted.{zeros, zero-at}
 
 module _ (l : Layout) (batch : List ℕ) where
   -- the record of a record's slot
-  pub following-twice : (i : ℕ) → i < recordCount l batch → following l batch (following l batch i) ≡ i
+  following-twice : (i : ℕ) → i < recordCount l batch → following l batch (following l batch i) ≡ i
   following-twice i h = omega arith
 
   module _ (index : List ℕ) (b : ℕ) (k : List ℕ) where

@@ -40,9 +40,13 @@ act-on-key-requires : tie.Need-act-on-key-requires
 unfolding recordKey
 act-on-key-requires c κs =
     let b = c .before .before .before .before .before .before .before .before .before in
-    let a = b .args in
-    (search needs, (ap length (c .before .«record» .ensures) ∙ record-length (a .s .layout) (a .batch .now) (a .i) (b .pre .1 .0),
-    b .pre .1 .1 .0 .each (a .i) (b .pre .1 .0) ∙ ap (λ r. fnv1a64 (keyIn (a .s .layout) r)) (sym (c .before .«record» .ensures))))
+    let a = b .args in (
+      search needs,
+      (
+        ap length (c .before .«record» .ensures) ∙ record-length (a .s .layout) (a .batch .now) (a .i) (b .pre .1 .0),
+        b .pre .1 .1 .0 .each (a .i) (b .pre .1 .0) ∙ ap (λ r. fnv1a64 (keyIn (a .s .layout) r)) (sym (c .before .«record» .ensures)),
+      ),
+    )
 
 same-length : tie.Need-same-length
 same-length c = search needs

@@ -44,9 +44,10 @@ append-all-requires : tie.Need-append-all-requires
 append-all-requires c κs =
     let b = c .before .before .before .before .before .before .before .before .before .before in
     let a = b .args in
-    let ready = b .pre .1 .1 in
-    (around-shaped (kept-live b (c .before .before .before .act-all .last .0) (c .before .before .before .act-all .ensures)) (b .pre .0),
-    (ready .hashed, (omega (arith, ready .ordered .fits, ready .ordered .size), (ready .room, order-below (a .s) (a .image .now) (a .batch .now) (a .hashes .now) (a .turns .now) (a .order .now) (a .count) ready))))
+    let ready = b .pre .1 .1 in (
+      around-shaped (kept-live b (c .before .before .before .act-all .last .0) (c .before .before .before .act-all .ensures)) (b .pre .0),
+      (ready .hashed, (omega (arith, ready .ordered .fits, ready .ordered .size), (ready .room, order-below (a .s) (a .image .now) (a .batch .now) (a .hashes .now) (a .turns .now) (a .order .now) (a .count) ready))),
+    )
 
 add-with-slots : tie.Need-add-with-slots
 add-with-slots c = let ready = c .before .before .before .before .before .before .before .before .before .before .before .before .before .before .before .pre .1 .1 in omega (arith, ready .room)

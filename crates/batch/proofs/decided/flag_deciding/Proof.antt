@@ -1,8 +1,8 @@
 -- `batch::decided::flag_deciding` meets its contract. The loop's invariant: the records from i on are flagged and indexed.
 -- Assumes nothing.
 use borrow.Author.Needs.{needs}
-use Prim.Native.Nat.{ℕ, suc, _-_, _≤_}
-use mathlib.Core.Path.{_≡_, ap, _∙_, sym, subst}
+use Prim.Native.Nat.{suc, _-_, _≤_}
+use mathlib.Core.Path.{_≡_, sym, subst}
 use native.Mathlib.Omega.{arith}
 use Rattle.probing.specs.Counting.{one}
 use Rattle.batch.specs.Batch.{recordCount, decides}

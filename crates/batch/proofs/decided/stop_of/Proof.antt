@@ -1,12 +1,10 @@
 -- `batch::decided::stop_of` meets its contract. The loop's invariant: the probe goes on from bucket b with the buckets that are left.
 -- Assumes nothing.
 use borrow.Author.Needs.{needs}
-use Prim.Native.Nat.{ℕ, suc, _+_, _-_, _%_, _<_}
-use mathlib.Core.Path.{_≡_, ap, ap₂, _∙_, sym, subst}
-use mathlib.Core.Bool.{Bool, cond}
+use Prim.Native.Nat.{ℕ, _-_, _%_, _<_}
+use mathlib.Core.Path.{_≡_, ap, _∙_, sym}
 use native.Mathlib.Nat.{mod-lt}
 use native.Mathlib.Omega.{arith}
-use lib.Dec.{lit<}
 use Rattle.probing.specs.Stop.{stopFrom, stop}
 use Rattle.probing.proofs.Stop.{stop-here, stop-onward}
 use Rattle.batch.specs.Batch.{recordKey}

@@ -80,15 +80,19 @@ apply-requires c κs =
     let b = c .before .before .before .before .before .before .before .before .before .before .before .before .before .before .before .before .before .before .before .before in
     let a = b .args in
     let o = in-order (c .before .before .before .before .before .before .before .before .before) in
-    let room = room-enough (a .s) (a .image .now) (a .batch .now) (b .pre .0) (c .before .before .before .before .before .room-test .ensures) (c .before .before .before .before .if2 .left) in
-    (b .pre .0, (b .pre .1,
-    record {
-      hashed = c .before .before .before .before .before .before .before .before .before .before .before .before .before .before .hash-keys .ensures;
-      turned = c .before .before .before .before .before .before .before .before .before .before .before .take-turns .ensures;
-      ordered = o .0;
-      counted = o .1;
-      room = omega (arith, room, o .1);
-    }))
+    let room = room-enough (a .s) (a .image .now) (a .batch .now) (b .pre .0) (c .before .before .before .before .before .room-test .ensures) (c .before .before .before .before .if2 .left) in (
+      b .pre .0,
+      (
+        b .pre .1,
+        record {
+          hashed = c .before .before .before .before .before .before .before .before .before .before .before .before .before .before .hash-keys .ensures;
+          turned = c .before .before .before .before .before .before .before .before .before .before .before .take-turns .ensures;
+          ordered = o .0;
+          counted = o .1;
+          room = omega (arith, room, o .1);
+        },
+      ),
+    )
 
 same-length-3 : tie.Need-same-length-3
 same-length-3 c = search needs

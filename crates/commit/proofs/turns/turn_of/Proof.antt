@@ -2,7 +2,7 @@
 -- Assumes nothing.
 use borrow.Author.Needs.{needs}
 use mathlib.Core.Bool.{true, cond}
-use mathlib.Core.Path.{_≡_, ap, _∙_, sym}
+use mathlib.Core.Path.{_≡_, _∙_, sym}
 use Rattle.batch.proofs.Every.{flag-down, flag-up}
 use Rattle.batch.specs.Batch.{decides}
 use Rattle.batch.specs.Notes.{live-turn, new-turn, turnOf}
