@@ -67,6 +67,29 @@ static void sizes(void)
 
 _Static_assert(SLC1_RECORD_SIZE(12, 20) == 56 && SLC1_RECORD_SIZE(1, 0) == 24, "a record, in a constant expression");
 
+/* As many slots as an image may have, and one more: 1,048,576 slots of 56 bytes, then 2,097,152 buckets of 16. */
+static void capacities(void)
+{
+    const slc1_options most = {12, 20, SLC1_CAPACITY_LIMIT, 1, 0, SLC1_NO_WRITER_KNOWN};
+    const slc1_options more = {12, 20, SLC1_CAPACITY_LIMIT + 1, 1, 0, SLC1_NO_WRITER_KNOWN};
+    const uint64_t last = SLC1_CAPACITY_LIMIT - 1;
+    uint8_t buffer[SLC1_HEADER_SIZE];
+
+    memset(buffer, 99, sizeof buffer);
+    same("total size of the most slots", slc1_total_size(SLC1_OPTIONS(&most)), 256 + 1048576 * 56 + 2097152 * 16);
+    same("total size of one more", slc1_total_size(SLC1_OPTIONS(&more)), 0);
+    same("key offset of the last slot", slc1_key_offset(SLC1_OPTIONS(&most), last), 256 + last * 56 + 8);
+    same("key offset past it", slc1_key_offset(SLC1_OPTIONS(&most), last + 1), 0);
+    same("index offset of the last slot", slc1_index_offset(SLC1_OPTIONS(&most), last), 256 + last * 56 + 8 + 16 + 8);
+    same("index offset past it", slc1_index_offset(SLC1_OPTIONS(&most), last + 1), 0);
+    same("key offset of one slot more", slc1_key_offset(SLC1_OPTIONS(&more), 0), 0);
+    same("create of the most slots in too short a buffer", slc1_create(buffer, sizeof buffer, SLC1_OPTIONS(&most)), SLC1_TOO_SHORT);
+    same("create of one more", slc1_create(buffer, sizeof buffer, SLC1_OPTIONS(&more)), SLC1_INVALID_INPUT);
+    same("open check of one more", slc1_open_check(buffer, sizeof buffer, SLC1_OPTIONS(&more)), SLC1_INVALID_INPUT);
+    for (size_t i = 0; i < sizeof buffer; i++)
+        same("a buffer left alone", buffer[i], 99);
+}
+
 /* The macros against the calls, for every size: 2 slots from 256 on, then 4 buckets of 16 bytes. */
 static void layouts(void)
 {
@@ -336,17 +359,20 @@ static void batches(void)
 {
     const slc1_options own = {1, 0, 1, 1, 0, SLC1_LOCK_HELD};
     enum { RECORD = SLC1_RECORD_SIZE(1, 0), LIMIT = SLC1_BATCH_LIMIT * RECORD };
-    uint8_t fresh[256 + RECORD + 32], batch[LIMIT + RECORD] = {0};
+    uint8_t fresh[256 + RECORD + 32], before[sizeof fresh], batch[LIMIT + RECORD] = {0};
+    const uint8_t *key = batch + SLC1_KEY_AT;
 
-    for (uint8_t i = 0; i <= SLC1_BATCH_LIMIT; i++) {
+    for (size_t i = 0; i <= SLC1_BATCH_LIMIT; i++) {
         batch[i * RECORD] = 1;
-        batch[i * RECORD + SLC1_REVISION_AT(1)] = i;
+        slc1_put_word(batch + i * RECORD + SLC1_REVISION_AT(1), i);
     }
     same("create", slc1_create(fresh, sizeof fresh, SLC1_OPTIONS(&own)), SLC1_DONE);
     same("begin", slc1_begin(fresh, sizeof fresh, SLC1_OPTIONS(&own)), SLC1_DONE);
     same("SLC1_BATCH_LIMIT", slc1_commit(fresh, sizeof fresh, SLC1_OPTIONS(&own), batch, LIMIT), SLC1_DONE);
-    same("the last one", (uint64_t)slc1_lookup_revision(fresh, sizeof fresh, SLC1_OPTIONS(&own), batch + SLC1_KEY_AT, 1), 63);
+    same("the last one", (uint64_t)slc1_lookup_revision(fresh, sizeof fresh, SLC1_OPTIONS(&own), key, 1), SLC1_BATCH_LIMIT - 1);
+    memcpy(before, fresh, sizeof fresh);
     same("one more", slc1_commit(fresh, sizeof fresh, SLC1_OPTIONS(&own), batch, LIMIT + RECORD), SLC1_INVALID_INPUT);
+    same("and nothing changed", (uint64_t)memcmp(before, fresh, sizeof fresh), 0);
 }
 
 /* The helpers of the header: what they refuse, and what they make of keys and indexes of the right length. */
@@ -411,6 +437,7 @@ int main(void)
     digests();
     ages();
     sizes();
+    capacities();
     layouts();
     lay_out();
     opened();
