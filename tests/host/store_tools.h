@@ -1,43 +1,18 @@
-/* What the tests of the store share: facts that must hold, files, records. */
+/* What the tests of the store share: files, records. */
 #ifndef STORE_TOOLS_H
 #define STORE_TOOLS_H
 
 #include <dirent.h>
 #include <fcntl.h>
-#include <inttypes.h>
-#include <stdbool.h>
-#include <stdio.h>
-#include <stdlib.h>
 #include <string.h>
 #include <sys/stat.h>
 #include <unistd.h>
 
+#include "../facts.h"
 #include "slc1.h"
 #include "store.h"
 
 #define COUNT(list) (sizeof(list) / sizeof *(list))
-
-static size_t comparisons;
-static char doing[100]; /* said where a fact does not hold */
-
-#define holds(fact) require((fact), #fact, __FILE__, __LINE__)
-#define same(wanted, got) require_same((uint64_t)(wanted), (uint64_t)(got), #got, __FILE__, __LINE__)
-
-static inline void require(bool fact, const char *what, const char *file, int line)
-{
-    comparisons++;
-    if (!fact) {
-        fprintf(stderr, "%s:%d: not %s %s\n", file, line, what, doing);
-        exit(1);
-    }
-}
-
-static inline void require_same(uint64_t wanted, uint64_t got, const char *what, const char *file, int line)
-{
-    if (wanted != got)
-        fprintf(stderr, "%s: %" PRIu64 ", wanted %" PRIu64 "\n", what, got, wanted);
-    require(wanted == got, what, file, line);
-}
 
 /* The number of open descriptors. */
 static inline int descriptors(void)

@@ -3,6 +3,7 @@
 #include <stdio.h>
 #include <string.h>
 
+#include "image_bytes.h"
 #include "slc1.h"
 
 static int differences;
@@ -115,33 +116,16 @@ static const slc1_options options = {3, 5, 2, 9, 0, SLC1_NO_WRITER_KNOWN};
 
 static void put(size_t offset, size_t width, uint64_t value)
 {
-    for (size_t i = 0; i < width; i++)
-        image[offset + i] = (uint8_t)(value >> 8 * i);
+    put_number(image + offset, width, value);
 }
 
 static void lay_out(void)
 {
-    memcpy(image, "SLC1", 4);
-    put(0x04, 4, 1);   /* version */
-    put(0x08, 4, 256); /* header_size */
-    put(0x0C, 4, 3);   /* key_size */
-    put(0x10, 4, 5);   /* index_size */
-    put(0x14, 4, 32);  /* slot_size */
-    put(0x18, 4, 1);   /* hash_alg */
-    put(0x20, 8, 2);   /* slot_capacity */
-    put(0x28, 8, 2);   /* slot_highwater */
-    put(0x30, 8, 1);   /* live_count */
-    put(0x38, 8, 9);   /* user_version */
-    put(0x48, 8, 4);   /* bucket_count */
-    put(0x50, 8, 1);   /* bucket_used */
-    put(0x58, 8, 1);   /* bucket_tombstones */
-    put(0x60, 8, 256); /* slots_offset */
-    put(0x68, 8, 320); /* buckets_offset */
-    put(0x78, 8, 0x1122334455667788);
-    for (uint8_t i = 0; i < 64; i++)
-        image[0x80 + i] = i;
-    put(0x70, 4, slc1_crc32c(image, 256));
+    uint8_t data[SLC1_USER_DATA_SIZE];
 
+    for (uint8_t i = 0; i < sizeof data; i++)
+        data[i] = i;
+    write_header(image, &options, &(struct header_numbers){2, 1, 1, 0, CLEAN, 0x1122334455667788, data});
     memcpy(image + 256 + 8, "abg", 3);
     put(288, 8, 1);
     memcpy(image + 288 + 8, "abc", 3);
