@@ -51,7 +51,7 @@ static void filled_in_part(uint64_t ordered)
     struct plant p;
 
     made(&p, ordered);
-    mixed_batches(&p, 160);
+    mixed_batches(&p, 100);
     holds(p.model.numbers.bucket_tombstones > 0);
     if (ordered) {
         uint32_t gone = 0;
@@ -179,7 +179,8 @@ static void rebuilt(struct plant *p)
     deletes_from(m, 0, room, batch);
     committed(p, batch, room);
     same(most, m->numbers.bucket_tombstones);
-    reads_as_modelled(p);
+    image_as_modelled(p);
+    lookups_as_modelled(p);
     deletes_from(m, room, 1, batch);
     committed(p, batch, 1);
     same(0, m->numbers.bucket_tombstones);
