@@ -51,7 +51,6 @@ class Comparison:
         """A small number, or one from far out of range."""
         return self.random.choice((0, 1, most, self.random.randrange(most + 2), 2**32, 2**63, 2**64 - 1))
 
-
     def results(self):
         """A list for the numbers of a call: often too short, often with entries to spare."""
         return [self.random.getrandbits(64) for _ in range(self.random.randrange(7))]
@@ -72,7 +71,7 @@ def places(comparison):
     """The sizes and places that a host asks for; 0 where the options, or the slot, are out of range."""
     for _ in range(20000):
         o = comparison.images.asked(comparison.images.options())
-        slot = comparison.number(o.slot_capacity % 2**16)
+        slot = comparison.number(min(o.slot_capacity, second.CAPACITY_LIMIT))
         total = second.total_size(o) if second.options_fit(o) else 0
         at = 256 + slot * second.slot_size(o) if total and slot < o.slot_capacity else None
         index = at + second.revision_offset(o) + 8 if at else 0
@@ -134,7 +133,8 @@ def creations(comparison):
         o = comparison.images.asked(comparison.images.options())
         size = second.total_size(o) if second.options_fit(o) else 300
         length = comparison.random.choice((0, 255, size - 1, size, size + 1, size + 70))
-        comparison.same("create", bytearray(comparison.random.randbytes(length)), o)
+        # room for the smallest slots, as many as there may be; memory for larger ones may be missing
+        comparison.same("create", bytearray(comparison.random.randbytes(min(length, 2**26))), o)
 
 
 def move_generation(comparison, image):
@@ -180,7 +180,7 @@ def malformed(comparison, o, batch):
     if kind == 0:
         return bytes(batch) + b"\0"
     if kind == 1:
-        return comparison.images.record(o) * pick.choice((63, 64, 65))
+        return comparison.images.record(o) * pick.choice((2, 64, 65, second.BATCH_LIMIT, second.BATCH_LIMIT + 1))
     if batch:
         at = pick.randrange(len(batch)) if kind < 4 else 0
         batch[at] = pick.choice((1, 2, 255))
@@ -203,13 +203,14 @@ def histories(comparison):
 
 
 def commits(comparison):
-    """Commits on damaged images, under other options and roles, ordered and not."""
+    """Commits on damaged images, under other options and roles, ordered and not; some of long batches."""
     for _ in range(4000):
         o = comparison.images.options()
         image = comparison.images.image(o)
         move_generation(comparison, image)
         for _ in range(3):
-            comparison.same("commit", image, comparison.images.asked(o), comparison.images.batch(o, 8))
+            most = comparison.random.choices((8, second.BATCH_LIMIT + 1), (40, 1))[0]
+            comparison.same("commit", image, comparison.images.asked(o), comparison.images.batch(o, most))
 
 
 def lengths(comparison):

@@ -62,8 +62,9 @@ MATCH_TOTAL = declared("match_total", U64, *IMAGE, U64, U64, *SLICE, *WINDOW, *S
 MATCH_WRITTEN = declared("match_written", U64, *IMAGE, U64, U64, *SLICE, *WINDOW, *SLICE)
 MATCH_RESULTS = declared("match_results", U32, *IMAGE, U64, U64, *SLICE, *WINDOW, *SLICE, *SLICE)
 
-# stands before and behind a lent list
+# stand before and behind a lent list, and an image that is written
 GUARD = 0xA5A5A5A5
+GUARDS = b"\xA5" * 64
 
 
 def lent(data):
@@ -186,9 +187,13 @@ def match_results(image, o, offset, bits, pattern, skip, limit, numbers, results
 
 
 def writing(call, image, *rest):
-    """A call that changes a lent image in place."""
-    room = (ctypes.c_char * len(image)).from_buffer(image) if image else ctypes.create_string_buffer(1)
-    return call(room, len(image), *rest)
+    """A call that changes a lent image in place, between guard bytes that every call leaves alone."""
+    room = (ctypes.c_char * (len(image) + 2 * len(GUARDS))).from_buffer_copy(GUARDS + image + GUARDS)
+    answer = call(ctypes.byref(room, len(GUARDS)), len(image), *rest)
+    if room[:len(GUARDS)] != GUARDS or room[-len(GUARDS):] != GUARDS:
+        raise AssertionError("the call wrote outside its image")
+    image[:] = room[len(GUARDS):-len(GUARDS)]
+    return answer
 
 
 def create(buffer, o):
