@@ -1,0 +1,101 @@
+"""Compares the library on this machine with the second program on large images and batches, byte for byte after each commit.
+
+usage: large.py [SEED]
+"""
+
+import sys
+import time
+from bisect import bisect_left
+
+from compare import Comparison, listings, reads
+
+import native
+import second
+
+# the second program walks all buckets several times in a commit: where there are many, few commits
+CAPACITIES = 600, 1024, 1500, 2048, 3000, 4097
+
+
+class History:
+    """One image of the library's and one of the second program's, changed by the same calls."""
+
+    def __init__(self, comparison, o):
+        self.comparison, self.options = comparison, o
+        self.images = [bytearray(second.total_size(o)) for _ in (native, second)]
+        made = {comparison.random.randbytes(o.key_size) for _ in range(3 * min(o.slot_capacity, 2000))}
+        self.keys = sorted(made | {comparison.images.key(o) for _ in range(20)})
+        self.rebuilds = 0
+
+    def same(self, name, *arguments):
+        """Makes a call of both; ends the run where the answers, or any bytes of the images, differ afterwards."""
+        ours, theirs = (getattr(program, name)(image, self.options, *arguments)
+                        for program, image in zip((native, second), self.images))
+        self.comparison.calls += 1
+        self.comparison.reached[name].add(ours)
+        if ours != theirs or self.images[0] != self.images[1]:
+            at = next((at for at, pair in enumerate(zip(*self.images)) if pair[0] != pair[1]), "none")
+            sys.exit(f"{name} {self.options}: the library answers {ours}, the second program {theirs}; first other byte: {at}")
+        return theirs
+
+    def batch(self, count):
+        """So many records, mostly puts or mostly deletes, of so few keys that many come more than once. Of an ordered image the
+        keys are those from its last one on, or any."""
+        pick, table = self.comparison.random, second.Table(self.images[1], self.options)
+        lowest = 0
+        if self.options.ordered and table.highwater > 0 and pick.random() < 0.8:
+            lowest = bisect_left(self.keys, table.slot(table.highwater - 1).key)
+        keys, puts = self.keys[lowest:lowest + pick.choice((300, 1500, 6000))], pick.choice((0.1, 0.6, 0.9, 1))
+        return b"".join(self.comparison.images.record(self.options, pick.choice(keys), pick.random() < puts) for _ in range(count))
+
+    def commit(self, batch):
+        before = second.field(self.images[1], "bucket_tombstones")
+        if self.same("commit", batch) == 0 and before > 0:
+            self.rebuilds += second.field(self.images[1], "bucket_tombstones") == 0
+
+    def empty(self):
+        """Deletes every key, which needs a rebuild where more than a quarter of the buckets were in use."""
+        live = [self.comparison.images.record(self.options, key, False) for _, key in second.live_keys(self.images[1], self.options)]
+        self.comparison.random.shuffle(live)
+        for start in range(0, len(live), second.BATCH_LIMIT):
+            self.commit(b"".join(live[start:start + second.BATCH_LIMIT]))
+
+
+def history(comparison, o, commits):
+    """A fresh image after a batch too long and commits of large batches, the first as long as may be; then lookups and listings."""
+    tried = History(comparison, o)
+    tried.same("create")
+    tried.same("begin")
+    for more in (1, 0, *(comparison.random.choice((-1, 0, 1)) for _ in range(commits - 1))):
+        tried.commit(tried.batch(second.BATCH_LIMIT + more))
+    image = bytes(tried.images[0])
+    for key in comparison.random.sample(tried.keys, 20):
+        comparison.same("lookup", image, o, key)
+    listings(comparison, image, o)
+    return tried
+
+
+def emptied(comparison, o):
+    tried = history(comparison, o, commits=8)
+    reads(comparison, bytes(tried.images[0]), o)
+    tried.empty()
+    reads(comparison, bytes(tried.images[0]), o)
+    return tried.rebuilds
+
+
+def main():
+    seed = int(sys.argv[1]) if len(sys.argv) > 1 else 1
+    comparison, rebuilds, began = Comparison(seed), 0, time.monotonic()
+    for ordered in (0, 1):
+        for capacity in CAPACITIES:
+            o = comparison.images.options()._replace(key_size=comparison.random.choice((2, 3, 8, 12)), ordered=ordered)
+            rebuilds += emptied(comparison, o._replace(slot_capacity=capacity))
+        history(comparison, second.Options(12, 20, 20000, 1, ordered, 2), commits=2)
+    history(comparison, second.Options(2, 0, second.CAPACITY_LIMIT, 1, comparison.random.randrange(2), 2), commits=1)
+    answered = comparison.reached["commit"]
+    if answered != {0, 5, 6, 7} or rebuilds == 0:
+        sys.exit(f"the commits answered {sorted(answered)}, with {rebuilds} rebuilds")
+    print(f"{comparison.calls} calls agree on large images, {rebuilds} rebuilds (seed {seed}, {time.monotonic() - began:.0f} s)")
+
+
+if __name__ == "__main__":
+    main()
