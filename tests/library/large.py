@@ -24,7 +24,6 @@ class History:
         self.images = [bytearray(second.total_size(o)) for _ in (native, second)]
         made = {comparison.random.randbytes(o.key_size) for _ in range(3 * min(o.slot_capacity, 2000))}
         self.keys = sorted(made | {comparison.images.key(o) for _ in range(20)})
-        self.rebuilds = 0
 
     def same(self, name, *arguments):
         """Makes a call of both; ends the run where the answers, or any bytes of the images, differ afterwards."""
@@ -35,7 +34,6 @@ class History:
         if ours != theirs or self.images[0] != self.images[1]:
             at = next((at for at, pair in enumerate(zip(*self.images)) if pair[0] != pair[1]), "none")
             sys.exit(f"{name} {self.options}: the library answers {ours}, the second program {theirs}; first other byte: {at}")
-        return theirs
 
     def batch(self, count):
         """So many records, mostly puts or mostly deletes, of so few keys that many come more than once. Of an ordered image the
@@ -47,17 +45,16 @@ class History:
         keys, puts = self.keys[lowest:lowest + pick.choice((300, 1500, 6000))], pick.choice((0.1, 0.6, 0.9, 1))
         return b"".join(self.comparison.images.record(self.options, pick.choice(keys), pick.random() < puts) for _ in range(count))
 
-    def commit(self, batch):
-        before = second.field(self.images[1], "bucket_tombstones")
-        if self.same("commit", batch) == 0 and before > 0:
-            self.rebuilds += second.field(self.images[1], "bucket_tombstones") == 0
-
     def empty(self):
-        """Deletes every key, which needs a rebuild where more than a quarter of the buckets were in use."""
-        live = [self.comparison.images.record(self.options, key, False) for _, key in second.live_keys(self.images[1], self.options)]
+        """Deletes every key. Tombstones become fewer only where the index is rebuilt; how often that was so comes back."""
+        o, made, rebuilds = self.options, self.comparison.images, 0
+        live = [made.record(o, key, put=False) for _, key in second.live_keys(self.images[1], o)]
         self.comparison.random.shuffle(live)
         for start in range(0, len(live), second.BATCH_LIMIT):
-            self.commit(b"".join(live[start:start + second.BATCH_LIMIT]))
+            before = second.field(self.images[1], "bucket_tombstones")
+            self.same("commit", b"".join(live[start:start + second.BATCH_LIMIT]))
+            rebuilds += second.field(self.images[1], "bucket_tombstones") < before
+        return rebuilds
 
 
 def history(comparison, o, commits):
@@ -66,7 +63,7 @@ def history(comparison, o, commits):
     tried.same("create")
     tried.same("begin")
     for more in (1, 0, *(comparison.random.choice((-1, 0, 1)) for _ in range(commits - 1))):
-        tried.commit(tried.batch(second.BATCH_LIMIT + more))
+        tried.same("commit", tried.batch(second.BATCH_LIMIT + more))
     image = bytes(tried.images[0])
     for key in comparison.random.sample(tried.keys, 20):
         comparison.same("lookup", image, o, key)
@@ -77,9 +74,9 @@ def history(comparison, o, commits):
 def emptied(comparison, o):
     tried = history(comparison, o, commits=8)
     reads(comparison, bytes(tried.images[0]), o)
-    tried.empty()
+    rebuilds = tried.empty()
     reads(comparison, bytes(tried.images[0]), o)
-    return tried.rebuilds
+    return rebuilds
 
 
 def main():

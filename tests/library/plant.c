@@ -106,7 +106,7 @@ static void batches_too_long(void)
     free_plant(&p);
 }
 
-/* One slot too many, with room for it. */
+/* One slot too many, in a buffer with room for it: 1,048,577 slots of 24 bytes, and 4,194,304 buckets. */
 static void slots_too_many(void)
 {
     slc1_options more = plant_options(0);
@@ -116,8 +116,9 @@ static void slots_too_many(void)
     more.slot_capacity = SLC1_CAPACITY_LIMIT + 1;
     more.key_size = 1;
     more.index_size = 0;
+    holds(256 + 1048577 * 24 + 4194304 * 16 <= p.total + GUARD_SIZE);
     same(0, slc1_total_size(SLC1_OPTIONS(&more)));
-    same(SLC1_INVALID_INPUT, slc1_create(p.image, p.total, SLC1_OPTIONS(&more)));
+    same(SLC1_INVALID_INPUT, slc1_create(p.image, p.total + GUARD_SIZE, SLC1_OPTIONS(&more)));
     image_as_modelled(&p);
     free_plant(&p);
 }

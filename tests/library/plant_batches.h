@@ -15,8 +15,8 @@ static uint32_t any_below(uint64_t limit)
     return (uint32_t)(state % limit);
 }
 
-/* Mostly a put of a key that was never there; else a put or a delete of one that stands in a slot, live or deleted, or of one
- * that the batch has already. An ordered image takes new keys from its last key on: a lower one that is not live is only deleted. */
+/* Mostly a put of a key that was never there; else a put or a delete of one that stands in a slot, live or deleted, or of one that
+ * the batch has already. An ordered image takes new keys from its last key on: a lower one that is not live is only deleted. */
 static struct operation any_operation(const struct model *m, const struct operation *batch, size_t count)
 {
     uint64_t highwater = m->numbers.slot_highwater;
