@@ -13,7 +13,7 @@ import native
 import second
 
 # the second program walks all buckets several times in a commit: where there are many, few commits
-CAPACITIES = 600, 1024, 1500, 2048, 3000, 4097
+CAPACITIES = 600, 1500, 2048, 4097
 
 
 class History:
@@ -35,44 +35,48 @@ class History:
             at = next((at for at, pair in enumerate(zip(*self.images)) if pair[0] != pair[1]), "none")
             sys.exit(f"{name} {self.options}: the library answers {ours}, the second program {theirs}; first other byte: {at}")
 
-    def batch(self, count):
-        """So many records, mostly puts or mostly deletes, of so few keys that many come more than once. Of an ordered image the
-        keys are those from its last one on, or any."""
-        pick, table = self.comparison.random, second.Table(self.images[1], self.options)
-        lowest = 0
-        if self.options.ordered and table.highwater > 0 and pick.random() < 0.8:
+    def batch(self, count, window, puts, anywhere):
+        """So many records of keys that stand in a window of all, so small that many come more than once; a share of them are puts.
+        Where it is not anywhere, the window of an ordered image begins at its last key."""
+        pick, table, lowest = self.comparison.random, second.Table(self.images[1], self.options), 0
+        if self.options.ordered and table.highwater > 0 and not anywhere:
             lowest = bisect_left(self.keys, table.slot(table.highwater - 1).key)
-        keys, puts = self.keys[lowest:lowest + pick.choice((300, 1500, 6000))], pick.choice((0.1, 0.6, 0.9, 1))
-        return b"".join(self.comparison.images.record(self.options, pick.choice(keys), pick.random() < puts) for _ in range(count))
+        keys, record = self.keys[lowest:lowest + window], self.comparison.images.record
+        return b"".join(record(self.options, pick.choice(keys), pick.random() < puts) for _ in range(count))
 
     def empty(self):
-        """Deletes every key. Tombstones become fewer only where the index is rebuilt; how often that was so comes back."""
+        """Deletes every key. Each leaves a tombstone, but where the index is rebuilt; how often that was so comes back."""
         o, made, rebuilds = self.options, self.comparison.images, 0
         live = [made.record(o, key, put=False) for _, key in second.live_keys(self.images[1], o)]
         self.comparison.random.shuffle(live)
         for start in range(0, len(live), second.BATCH_LIMIT):
-            before = second.field(self.images[1], "bucket_tombstones")
-            self.same("commit", b"".join(live[start:start + second.BATCH_LIMIT]))
-            rebuilds += second.field(self.images[1], "bucket_tombstones") < before
+            batch, before = live[start:start + second.BATCH_LIMIT], second.field(self.images[1], "bucket_tombstones")
+            self.same("commit", b"".join(batch))
+            rebuilds += second.field(self.images[1], "bucket_tombstones") != before + len(batch)
         return rebuilds
 
 
 def history(comparison, o, commits):
-    """A fresh image after a batch too long and commits of large batches, the first as long as may be; then lookups and listings."""
-    tried = History(comparison, o)
+    """A fresh image after a batch that is too long and some that are not; then lookups and listings."""
+    tried, limit, pick = History(comparison, o), second.BATCH_LIMIT, comparison.random
     tried.same("create")
     tried.same("begin")
-    for more in (1, 0, *(comparison.random.choice((-1, 0, 1)) for _ in range(commits - 1))):
-        tried.same("commit", tried.batch(second.BATCH_LIMIT + more))
+    # enough keys for a rebuild, and then new ones below them: 6 where the image is ordered and has room
+    batches = [(limit + 1, 1500, 0.9, True), (limit, 1500, 0.9, True), (limit - 1, 6000, 0.9, True)][:1 + commits]
+    for _ in range(commits - 2):
+        batches.append((pick.randrange(limit - 1, limit + 2), pick.choice((300, 1500, 6000)), pick.choice((0.1, 0.6, 0.9, 1)),
+                        pick.random() < 0.2))
+    for batch in batches:
+        tried.same("commit", tried.batch(*batch))
     image = bytes(tried.images[0])
-    for key in comparison.random.sample(tried.keys, 20):
+    for key in pick.sample(tried.keys, 20):
         comparison.same("lookup", image, o, key)
     listings(comparison, image, o)
     return tried
 
 
-def emptied(comparison, o):
-    tried = history(comparison, o, commits=8)
+def emptied(comparison, o, commits):
+    tried = history(comparison, o, commits)
     reads(comparison, bytes(tried.images[0]), o)
     rebuilds = tried.empty()
     reads(comparison, bytes(tried.images[0]), o)
@@ -83,9 +87,9 @@ def main():
     seed = int(sys.argv[1]) if len(sys.argv) > 1 else 1
     comparison, rebuilds, began = Comparison(seed), 0, time.monotonic()
     for ordered in (0, 1):
-        for capacity in CAPACITIES:
+        for capacity, commits in ((1024, 1), *((capacity, 8) for capacity in CAPACITIES)):
             o = comparison.images.options()._replace(key_size=comparison.random.choice((2, 3, 8, 12)), ordered=ordered)
-            rebuilds += emptied(comparison, o._replace(slot_capacity=capacity))
+            rebuilds += emptied(comparison, o._replace(slot_capacity=capacity), commits)
         history(comparison, second.Options(12, 20, 20000, 1, ordered, 2), commits=2)
     history(comparison, second.Options(2, 0, second.CAPACITY_LIMIT, 1, comparison.random.randrange(2), 2), commits=1)
     answered = comparison.reached["commit"]
