@@ -6,8 +6,9 @@
  *
  * A slice is a pointer and a length. The pointer must not be NULL, not even where the length is 0. Slices lent to one call
  * do not overlap where one of them is written. Nothing is kept between calls: what is lent is the caller's own again when
- * the call returns. No call allocates, blocks or fails otherwise than by the number that it gives back. Calls may run side by
- * side in several threads where none writes what another is lent.
+ * the call returns. No call allocates, blocks or fails otherwise than by the number that it gives back. A commit uses up to
+ * 48 KiB of stack, any other call up to 4 KiB. Calls may run side by side in several threads where none writes what another
+ * is lent.
  *
  * Lent bytes stand still during a call. A shared mapping that another process may write is copied first, and the copy
  * lent.
