@@ -35,6 +35,8 @@ static const char USAGE[] =
     "\n"
     "Right after load or rebuild, --older takes certificates that are older than the cache's or than an earlier line's, or\n"
     "have another gain for the cache's revision; right after load, --progress shows how far it is, as on a terminal.\n"
+    "Right after create or rebuild, --capacity N makes a cache of N slots, 1 to 1048576, one for each serial; without it\n"
+    "create makes one of 512, and rebuild one of as many as there were.\n"
     "\n"
     "CERTIFICATES.csv has lines serial,revision,gain, each with a line feed: a serial of 12 characters; a whole number; and\n"
     "a number of 1 to 20 characters, digits with or without a sign, and perhaps a point with digits on both sides.\n"
@@ -45,8 +47,9 @@ static const char USAGE[] =
 enum { EXIT_USAGE = 64 };
 
 /* What stands right after the command. */
-enum { OLDER = 1, PROGRESS = 2 };
+enum { OLDER = 1, PROGRESS = 2, CAPACITY = 4 };
 static int wanted;
+static uint64_t wanted_capacity; /* with CAPACITY */
 
 /* Sentences. */
 
@@ -106,6 +109,11 @@ static void require_done(uint32_t answer, const char *path)
         exit(answered(answer, path));
 }
 
+static const char *plural(uint64_t count)
+{
+    return count == 1 ? "" : "s";
+}
+
 /* What is wrong with a file beside what its answer says: its length, where it is to be rebuilt, and its checksum. */
 static void warn_of(const struct store_image *image, const char *path)
 {
@@ -113,8 +121,9 @@ static void warn_of(const struct store_image *image, const char *path)
     int order = answer == SLC1_NEEDS_REBUILD || answer == SLC1_INVALIDATED ? store_length_order(image) : 0;
 
     if (order != 0)
-        fprintf(stderr, "bench: %s is %s than a cache, which has exactly %" PRIu64 " bytes\n", path,
-                order > 0 ? "longer" : "shorter", slc1_total_size(SLC1_OPTIONS(&image->options)));
+        fprintf(stderr, "bench: %s is %s than a cache of %" PRIu64 " slot%s, which has exactly %" PRIu64 " bytes\n", path,
+                order > 0 ? "longer" : "shorter", image->options.slot_capacity, plural(image->options.slot_capacity),
+                slc1_total_size(SLC1_OPTIONS(&image->options)));
     if (image->checksum == STORE_NO_MARK)
         fprintf(stderr, "bench: %s has no checksum, a changed gain would not be noticed: load or rebuild adds one\n", path);
     if (image->checksum == STORE_WRONG)
@@ -122,20 +131,20 @@ static void warn_of(const struct store_image *image, const char *path)
 }
 
 /* More serials than slots; or no more, but with those that are deleted. */
-static _Noreturn void refuse_full(const char *path, size_t serials, uint64_t live)
+static _Noreturn void refuse_full(const char *path, uint64_t slots, size_t serials, uint64_t live)
 {
-    if (serials > SLOT_CAPACITY)
-        fail(SLC1_FULL, "%s is full: it has %d slots, and %zu serials are too many by %zu: drop those that are no longer in "
-             "use, or keep some in a second cache", path, SLOT_CAPACITY, serials, serials - SLOT_CAPACITY);
+    if (serials > SLC1_CAPACITY_LIMIT)
+        fail(SLC1_FULL, "%s is full: no cache has more than %d slots, and %zu serials are too many by %zu: drop those that are "
+             "no longer in use, or keep some in a second cache", path, SLC1_CAPACITY_LIMIT, serials,
+             serials - SLC1_CAPACITY_LIMIT);
+    if (serials > slots)
+        fail(SLC1_FULL, "%s is full: it has %" PRIu64 " slot%s, and %zu serials are too many by %zu: drop those that are no "
+             "longer in use, or run bench rebuild --capacity %zu with all certificates", path, slots, plural(slots), serials,
+             serials - (size_t)slots, serials);
     if (live == 0)
         fail(SLC1_FULL, "%s is full of deleted certificates, which keep their slots: run bench rebuild", path);
     fail(SLC1_FULL, "%s is full: deleted certificates keep their slots. To free these, run bench export %s ALL.csv and bench "
          "rebuild %s ALL.csv, and then load again", path, path, path);
-}
-
-static const char *plural(uint64_t count)
-{
-    return count == 1 ? "" : "s";
 }
 
 /* Certificates shown. */
@@ -186,12 +195,13 @@ static void show_slot(const struct store_image *image, uint64_t number)
 
 /* Caches read. */
 
-/* Copies a cache. What the store can't do ends the program; other answers are handed back. */
-static uint32_t read_cache(struct store_reader *reader, const char *path, int flags)
+/* Copies a cache, and judges its checksum however large it is. What the store can't do ends the program; other answers are
+ * handed back. */
+static uint32_t read_cache(struct store_reader *reader, const char *path)
 {
     uint32_t answer;
 
-    require_done(store_open_reader(reader, path, &OPTIONS, flags), path);
+    require_done(store_open_reader(reader, path, &OPTIONS, STORE_VERIFY), path);
     answer = store_read(reader);
     if (answer >= STORE_FAILED)
         exit(answered(answer, path));
@@ -199,18 +209,24 @@ static uint32_t read_cache(struct store_reader *reader, const char *path, int fl
     return answer;
 }
 
-/* All live slots, in order. */
+/* Live slots, in order. */
 struct slots {
     uint64_t count;
-    uint32_t numbers[SLOT_CAPACITY];
+    uint32_t *numbers;
 };
 
-static uint32_t scan(const struct store_image *image, struct slots *slots)
+/* Lists the slots whose serials begin so, and with an empty start all. The caller frees the numbers, whatever the answer is. */
+static uint32_t list_slots(struct slots *slots, const struct store_image *image, const char *start)
 {
-    uint64_t results[SLC1_LISTING_RESULTS];
-    uint32_t answer = slc1_scan_results(
-        STORE_LENT(image), 0, SLOT_CAPACITY, slots->numbers, SLOT_CAPACITY, results, SLC1_LISTING_RESULTS);
+    uint64_t results[SLC1_LISTING_RESULTS], room = image->options.slot_capacity;
+    uint32_t answer;
 
+    slots->numbers = grown(NULL, (size_t)room * sizeof *slots->numbers);
+    if (*start == '\0')
+        answer = slc1_scan_results(STORE_LENT(image), 0, room, slots->numbers, (size_t)room, results, SLC1_LISTING_RESULTS);
+    else
+        answer = slc1_match_results(STORE_LENT(image), 0, 0, (const uint8_t *)start, strlen(start), 0, room, slots->numbers,
+                                    (size_t)room, results, SLC1_LISTING_RESULTS);
     slots->count = results[2];
     return answer;
 }
@@ -222,7 +238,7 @@ static int get(char **words)
     uint64_t slot, buckets;
 
     require_serial("", words[1]);
-    answer = read_cache(&reader, words[0], 0);
+    answer = read_cache(&reader, words[0]);
     if (answer == SLC1_DONE &&
         slc1_get(reader.image.bytes, reader.image.length, &reader.image.options, (const uint8_t *)words[1], KEY_SIZE, &answer,
                  &slot, NULL, &buckets) != NULL) {
@@ -236,22 +252,22 @@ static int get(char **words)
 static int find(char **words)
 {
     size_t length = strlen(words[1]);
-    uint64_t results[SLC1_LISTING_RESULTS] = {0};
-    uint32_t numbers[SLOT_CAPACITY], answer;
+    struct slots slots = {0, NULL};
     struct store_reader reader;
+    uint32_t answer;
 
     if (length < 1 || length > KEY_SIZE)
         fail(SLC1_INVALID_INPUT, "'%s' has %zu characters: half a serial has 1 to %d", words[1], length, KEY_SIZE);
-    answer = read_cache(&reader, words[0], 0);
+    answer = read_cache(&reader, words[0]);
     if (answer == SLC1_DONE)
-        answer = slc1_match_results(STORE_LENT(&reader.image), 0, 0, (const uint8_t *)words[1], length, 0,
-                                    SLOT_CAPACITY, numbers, SLOT_CAPACITY, results, SLC1_LISTING_RESULTS);
-    for (uint64_t i = 0; i < results[2]; i++) {
-        show_slot(&reader.image, numbers[i]);
+        answer = list_slots(&slots, &reader.image, words[1]);
+    for (uint64_t i = 0; i < slots.count; i++) {
+        show_slot(&reader.image, slots.numbers[i]);
         putchar('\n');
     }
+    free(slots.numbers);
     store_close_reader(&reader);
-    if (answer == SLC1_DONE && results[2] == 0)
+    if (answer == SLC1_DONE && slots.count == 0)
         fail(SLC1_NOT_PRESENT, "no serial begins with '%s'", words[1]);
     return answered(answer, words[0]);
 }
@@ -266,13 +282,14 @@ static void show_lines(FILE *out, const struct store_image *image, const struct 
 static int list(char **words)
 {
     struct store_reader reader;
-    struct slots slots;
-    uint32_t answer = read_cache(&reader, words[0], 0);
+    struct slots slots = {0, NULL};
+    uint32_t answer = read_cache(&reader, words[0]);
 
     if (answer == SLC1_DONE)
-        answer = scan(&reader.image, &slots);
+        answer = list_slots(&slots, &reader.image, "");
     if (answer == SLC1_DONE)
         show_lines(stdout, &reader.image, &slots);
+    free(slots.numbers);
     store_close_reader(&reader);
     return answered(answer, words[0]);
 }
@@ -314,18 +331,19 @@ static void write_file(const char *path, const struct store_image *image, const 
 static int export(char **words)
 {
     struct store_reader reader;
-    struct slots slots;
-    uint32_t answer = read_cache(&reader, words[0], 0);
+    struct slots slots = {0, NULL};
+    uint32_t answer = read_cache(&reader, words[0]);
 
     reader.image.options.role = SLC1_NO_WRITER_KNOWN;
     if (answer == SLC1_DONE && slc1_open_check(STORE_LENT(&reader.image)) != SLC1_DONE)
         answer = SLC1_BUSY;
     if (answer == SLC1_DONE)
-        answer = scan(&reader.image, &slots);
+        answer = list_slots(&slots, &reader.image, "");
     if (answer == SLC1_DONE) {
         write_file(words[1], &reader.image, &slots);
         printf("%" PRIu64 " certificate%s written to %s\n", slots.count, plural(slots.count), words[1]);
     }
+    free(slots.numbers);
     store_close_reader(&reader);
     return answered(answer, words[0]);
 }
@@ -336,7 +354,7 @@ static int check(char **words)
         [STORE_UNCHECKED] = "unknown", [STORE_NO_MARK] = "none", [STORE_RIGHT] = "right", [STORE_WRONG] = "wrong"};
     struct store_reader reader;
     uint64_t results[SLC1_FULL_CHECK_RESULTS];
-    uint32_t answer = read_cache(&reader, words[0], STORE_VERIFY);
+    uint32_t answer = read_cache(&reader, words[0]);
 
     slc1_full_check_results(STORE_LENT(&reader.image), results, SLC1_FULL_CHECK_RESULTS);
     printf("answer %" PRIu64 " live %" PRIu64 " tombstones %" PRIu64 " probes %" PRIu64 " checksum %s\n", results[0],
@@ -390,16 +408,17 @@ static int compare(char **words)
 {
     struct certificates all = certificates_read(words[1]);
     struct store_reader reader;
-    struct slots slots;
-    uint32_t answer = read_cache(&reader, words[0], 0);
+    struct slots slots = {0, NULL};
+    uint32_t answer = read_cache(&reader, words[0]);
     size_t count = 0;
 
     if (answer == SLC1_DONE)
         answer = slc1_full_check(STORE_LENT(&reader.image));
     if (answer == SLC1_DONE)
-        answer = scan(&reader.image, &slots);
+        answer = list_slots(&slots, &reader.image, "");
     if (answer == SLC1_DONE)
         count = show_differences(&reader.image, &slots, &all);
+    free(slots.numbers);
     store_close_reader(&reader);
     certificates_free(&all);
     return count > 0 ? EXIT_FAILURE : answered(answer, words[0]);
@@ -409,8 +428,12 @@ static int compare(char **words)
 
 static int create(char **words)
 {
-    require_done(store_create(words[0], &OPTIONS), words[0]);
-    printf("%s created, %d slots\n", words[0], SLOT_CAPACITY);
+    slc1_options options = OPTIONS;
+
+    if (wanted & CAPACITY)
+        options.slot_capacity = wanted_capacity;
+    require_done(store_create(words[0], &options), words[0]);
+    printf("%s created, %" PRIu64 " slot%s\n", words[0], options.slot_capacity, plural(options.slot_capacity));
     return SLC1_DONE;
 }
 
@@ -458,7 +481,8 @@ static int load(char **words)
         writer.progress = show_progress;
     answer = store_update(&writer, &all.records);
     if (answer == SLC1_FULL)
-        refuse_full(words[0], live(&writer) + certificates_count(&all, &writer.image), live(&writer));
+        refuse_full(words[0], writer.image.options.slot_capacity,
+                    live(&writer) + certificates_count(&all, &writer.image), live(&writer));
     if (answer == SLC1_DONE)
         printf("%zu certificate%s loaded, %" PRIu64 " live\n", all.records.count, plural(all.records.count), live(&writer));
     store_close_writer(&writer);
@@ -471,10 +495,13 @@ static int rebuild(char **words)
     struct store_writer writer;
     struct certificates all = prepare(&writer, words);
     size_t count = certificates_count(&all, NULL);
-    uint32_t answer = store_rebuild(&writer, &all.records);
+    uint32_t answer;
 
+    if (wanted & CAPACITY)
+        writer.slot_capacity = wanted_capacity;
+    answer = store_rebuild(&writer, &all.records);
     if (answer == SLC1_FULL)
-        refuse_full(words[0], count, 0);
+        refuse_full(words[0], writer.slot_capacity, count, 0);
     if (answer == SLC1_DONE)
         printf("%s rebuilt: %zu certificate%s\n", words[0], count, plural(count));
     store_close_writer(&writer);
@@ -522,18 +549,49 @@ static const struct command {
     int options;
     int (*run)(char **words);
 } COMMANDS[] = {
-    {"create", 1, 0, create}, {"load", 2, OLDER | PROGRESS, load}, {"rebuild", 2, OLDER, rebuild}, {"compare", 2, 0, compare},
-    {"get", 2, 0, get},       {"find", 2, 0, find},                {"list", 1, 0, list},           {"export", 2, 0, export},
-    {"check", 1, 0, check},   {"drop", 2, 0, drop},
+    {"create", 1, CAPACITY, create},   {"load", 2, OLDER | PROGRESS, load}, {"rebuild", 2, OLDER | CAPACITY, rebuild},
+    {"compare", 2, 0, compare},        {"get", 2, 0, get},                  {"find", 2, 0, find},
+    {"list", 1, 0, list},              {"export", 2, 0, export},            {"check", 1, 0, check},
+    {"drop", 2, 0, drop},
 };
 
-/* Whether a word is an option of the command; it is then wanted. */
-static bool is_option(const struct command *command, const char *word)
-{
-    int option = strcmp(word, "--older") == 0 ? OLDER : strcmp(word, "--progress") == 0 ? PROGRESS : 0;
+static const struct option {
+    const char *name;
+    int option;
+} OPTION_NAMES[] = {{"--older", OLDER}, {"--progress", PROGRESS}, {"--capacity", CAPACITY}};
 
-    wanted |= option & command->options;
-    return option & command->options;
+/* Digits alone: strtoull would take a sign and blanks too. */
+static uint64_t require_capacity(const char *text)
+{
+    unsigned long long slots = strtoull(text, NULL, 10);
+
+    if (text[strspn(text, "0123456789")] != '\0' || slots < 1 || slots > SLC1_CAPACITY_LIMIT)
+        fail(SLC1_INVALID_INPUT, "--capacity '%s' is not a number of slots: give one from 1 to %d", text, SLC1_CAPACITY_LIMIT);
+    return slots;
+}
+
+/* Which option of the command a word is, or 0. */
+static int option_of(const struct command *command, const char *word)
+{
+    for (size_t i = 0; i < sizeof OPTION_NAMES / sizeof *OPTION_NAMES; i++) {
+        if (strcmp(word, OPTION_NAMES[i].name) == 0)
+            return OPTION_NAMES[i].option & command->options;
+    }
+    return 0;
+}
+
+/* Takes the options at the start of a command's words, and gives back the others. */
+static char **without_options(const struct command *command, char **words)
+{
+    int option;
+
+    while (*words != NULL && (option = option_of(command, *words)) != 0) {
+        wanted |= option;
+        words++;
+        if (option == CAPACITY && *words != NULL)
+            wanted_capacity = require_capacity(*words++);
+    }
+    return words;
 }
 
 /* Runs a command with the words behind it, ended by NULL. */
@@ -541,8 +599,7 @@ static int run(const struct command *command, char **words)
 {
     int count = 0;
 
-    while (*words != NULL && is_option(command, *words))
-        words++;
+    words = without_options(command, words);
     while (words[count] != NULL)
         count++;
     if (count == command->words && strncmp(*words, "--", 2) != 0)

@@ -18,7 +18,7 @@ const slc1_options OPTIONS = {KEY_SIZE, INDEX_SIZE, SLOT_CAPACITY, USER_VERSION,
 /* Where a complaint begins: the file and the line. */
 enum { WHERE_SIZE = 300 };
 
-static void *grown(void *room, size_t size)
+void *grown(void *room, size_t size)
 {
     room = realloc(room, size);
     if (room == NULL)

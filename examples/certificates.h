@@ -13,6 +13,7 @@ enum { KEY_SIZE = 12, INDEX_SIZE = 20, SLOT_CAPACITY = 512, USER_VERSION = 1, OR
 enum { REVISION_AT = SLC1_REVISION_AT(KEY_SIZE), INDEX_AT = SLC1_INDEX_AT(KEY_SIZE) };
 enum { RECORD_SIZE = SLC1_RECORD_SIZE(KEY_SIZE, INDEX_SIZE) };
 
+/* The options of a cache, with the slots of one that is made without asking for another number. */
 extern const slc1_options OPTIONS;
 
 /* The first line of a file of certificates. It may be missing in one that is read. */
@@ -22,6 +23,9 @@ extern const slc1_options OPTIONS;
 enum { EXIT_IO = 74 }; /* a call of the system failed, or memory is short */
 _Noreturn void fail(int status, const char *format, ...);
 _Noreturn void fail_io(const char *path, const char *call);
+
+/* As realloc; the program ends where memory is short. */
+void *grown(void *room, size_t size);
 
 /* A serial of another length is refused, and never cut or padded. `where` begins the complaint. */
 void require_serial(const char *where, const char *serial);

@@ -22,6 +22,9 @@
 
 enum { WORD = 8 };
 
+/* Where the header has slot_capacity. */
+enum { CAPACITY_AT = 0x20 };
+
 /* A reader waits a quarter of a second for the end of a commit, a writer two seconds for readers and writers. */
 enum { READ_TRIES = 250, LOCK_TRIES = 2000, PAUSE_NANOSECONDS = 1000000 };
 
@@ -60,6 +63,21 @@ static uint32_t new_image(struct store_image *image, const slc1_options *options
         return SLC1_INVALID_INPUT;
     image->bytes = calloc(1, room_of(image));
     return image->bytes == NULL ? STORE_FAILED : SLC1_DONE;
+}
+
+/* Room for a copy with another number of slots, in place of the one there is. */
+static uint32_t resize_image(struct store_image *image, uint64_t slot_capacity)
+{
+    struct store_image other = *image;
+    uint32_t answer;
+
+    other.options.slot_capacity = slot_capacity;
+    answer = new_image(&other, &other.options);
+    if (answer == SLC1_DONE) {
+        free(image->bytes);
+        *image = other;
+    }
+    return answer;
 }
 
 int store_length_order(const struct store_image *image)
@@ -205,6 +223,23 @@ static uint32_t write_at(int file, const uint8_t *bytes, size_t length, size_t o
     return SLC1_DONE;
 }
 
+/* Makes room for a copy of a file, with the slot_capacity of its header where an image may have so many. A file keeps that
+ * as long as it is there: a rebuild makes another. */
+static uint32_t fit_image(struct store_image *image, int file)
+{
+    struct store_image of_the_file = *image;
+    uint8_t word[WORD];
+    ssize_t length = read_at(file, word, WORD, CAPACITY_AT);
+    uint32_t answer = length < 0 ? STORE_FAILED : SLC1_DONE;
+
+    of_the_file.options.slot_capacity = length == WORD ? slc1_word_at(word) : 0;
+    if (size_of(&of_the_file) > 0 && size_of(&of_the_file) != size_of(image))
+        answer = resize_image(image, of_the_file.options.slot_capacity);
+    if (answer != SLC1_DONE)
+        image->length = 0; /* it is not this file's */
+    return answer;
+}
+
 /* Readers. */
 
 /* Copies the file, as much of it as can be read. Where the generation moves meanwhile, parts of the copy may come from
@@ -277,7 +312,8 @@ static uint32_t try_read(struct store_reader *reader)
     }
     close_file(reader->file);
     reader->file = file;
-    return read_file(reader, file);
+    answer = fit_image(&reader->image, file);
+    return answer == SLC1_DONE ? read_file(reader, file) : answer;
 }
 
 /* Whether a writer may soon make an image usable. Beside one, 4 is a commit under way, and 1 may be the CRC of a begin
@@ -425,13 +461,25 @@ static uint32_t lock_for_writing(struct store_writer *writer)
     return answer;
 }
 
+/* Room for what stands in the file, as large as the private copy. */
+static uint32_t fit_published(struct store_writer *writer)
+{
+    free(writer->published);
+    writer->published = calloc(1, size_of(&writer->image));
+    return writer->published == NULL ? STORE_FAILED : SLC1_DONE;
+}
+
 static uint32_t try_lock(struct store_writer *writer)
 {
     uint32_t answer = open_file(&writer->file, writer->path, O_RDWR, 0);
 
     if (answer != SLC1_DONE)
         return answer;
-    answer = lock_for_writing(writer);
+    answer = fit_image(&writer->image, writer->file);
+    if (answer == SLC1_DONE)
+        answer = fit_published(writer);
+    if (answer == SLC1_DONE)
+        answer = lock_for_writing(writer);
     if (answer != SLC1_DONE)
         close_file(writer->file);
     return answer;
@@ -452,19 +500,19 @@ uint32_t store_open_writer(struct store_writer *writer, const char *path, const 
 
     *writer = (struct store_writer){.path = path};
     answer = new_image(&writer->image, options);
-    if (answer == SLC1_DONE && (writer->published = calloc(1, size_of(&writer->image))) == NULL)
-        answer = STORE_FAILED;
     if (answer == SLC1_DONE)
         answer = try_lock(writer);
     for (int tries = 1; tries < LOCK_TRIES && answer == SLC1_BUSY; tries++) {
         pause_briefly();
         answer = try_lock(writer);
     }
-    if (answer != SLC1_DONE)
+    if (answer != SLC1_DONE) {
         free_writer(writer);
-    else
-        writer->image.checksum = judge_checksum(&writer->image, STORE_VERIFY);
-    return answer;
+        return answer;
+    }
+    writer->slot_capacity = writer->image.options.slot_capacity;
+    writer->image.checksum = judge_checksum(&writer->image, STORE_VERIFY);
+    return SLC1_DONE;
 }
 
 void store_close_writer(struct store_writer *writer)
@@ -718,6 +766,13 @@ static uint32_t replace_file(struct store_writer *writer)
     return answer;
 }
 
+static uint32_t resize_writer(struct store_writer *writer)
+{
+    uint32_t answer = resize_image(&writer->image, writer->slot_capacity);
+
+    return answer == SLC1_DONE ? fit_published(writer) : answer;
+}
+
 /* Makes the private copy anew, of the records alone. */
 static uint32_t make_anew(struct store_image *image, const struct store_records *records)
 {
@@ -734,6 +789,8 @@ uint32_t store_rebuild(struct store_writer *writer, const struct store_records *
     uint32_t answer = judge_replacement(writer);
     sigset_t before;
 
+    if (answer == SLC1_DONE && writer->slot_capacity != image->options.slot_capacity)
+        answer = resize_writer(writer);
     if (answer != SLC1_DONE)
         return answer;
     answer = make_anew(image, records);

@@ -21,7 +21,8 @@
  * mark "slotsCRC", the CRC32-C of all bytes behind the header as a u64. It is renewed before each checkpoint, and holds
  * for CLEAN images. The other 48 bytes and the user flags are the host's own, and stay; after a rebuild they are 0.
  *
- * The role of the options is not looked at: the store finds it out.
+ * The role of the options is not looked at: the store finds it out. Their slot_capacity is for a file that the store makes, or
+ * whose own can't be known; of any other file the header's is taken, and is then in the options of the image.
  */
 #ifndef STORE_H
 #define STORE_H
@@ -62,7 +63,7 @@ enum {
 struct store_image {
     uint8_t *bytes;
     size_t length;
-    slc1_options options; /* with the role that is true of these bytes */
+    slc1_options options; /* with the slot_capacity of the file, and the role that is true of these bytes */
     int checksum;
 };
 
@@ -103,11 +104,12 @@ struct store_records {
     size_t count;
 };
 
-/* A file that this process alone may write. The host may read the image and, once it is open, set progress; the rest is the
- * store's. */
+/* A file that this process alone may write. The host may read the image and, once it is open, set progress and slot_capacity;
+ * the rest is the store's. */
 struct store_writer {
     struct store_image image;
     void (*progress)(size_t done, size_t all); /* called after each commit, unless it is NULL */
+    uint64_t slot_capacity; /* of the file that a rebuild makes; the image's, unless another is set */
     const char *path;
     int file;           /* the file that `path` names, with its exclusive lock */
     uint8_t *published; /* what stands there */
@@ -128,7 +130,8 @@ uint32_t store_update(struct store_writer *writer, const struct store_records *r
 /* Replaces the file by one with these records alone, once that is whole and synced. Its owner, its mode and symbolic
  * links to it stay; access lists do not. A file is replaced that is empty or an image for the same options, damaged or
  * not: SLC1_INCOMPATIBLE for any other. Answers as store_update does, and SLC1_BUSY where the path names another file by
- * now. Where it is done the writer goes on with the new file, else it can only be closed. */
+ * now; SLC1_INVALID_INPUT where slot_capacity is out of range. Where it is done the writer goes on with the new file, else it
+ * can only be closed. */
 uint32_t store_rebuild(struct store_writer *writer, const struct store_records *records);
 
 /* Gives the lock back. */

@@ -9,8 +9,8 @@ from itertools import chain, combinations
 
 import second
 from bench_shim import CREATE, DROP, LOAD, REBUILD, calls_of, held, renaming
-from bench_tools import COUNTS, LOADED, NEW, OLD, OPTIONS, WORK, holds, path_of, read, rows, same, says, there, write
-from bench_wanted import OLD_IMAGE, changed, fresh, listed, reads, stored, struck_out
+from bench_tools import COUNTS, LOADED, MANY_NEW, NEW, OLD, OPTIONS, WORK, holds, path_of, read, rows, same, says, there, write
+from bench_wanted import MANY_IMAGE, OLD_IMAGE, changed, fresh, listed, reads, stored, struck_out
 
 EXPORT = ("export", "cache", "made.csv")
 FILES = ("cache", "cache.rebuilding", "made.csv")
@@ -42,8 +42,9 @@ def without(bench, closed, *words):
 def closed_descriptors(bench):
     """Whichever of the three is closed, what it would have printed goes nowhere, and never to the cache."""
     shown = (("list", "cache"), ("get", "cache", NEW[0].serial), ("find", "cache", "CM"), ("check", "cache"))
-    for words in (CREATE, LOAD, ("load", "--progress", "cache", "new.csv"), REBUILD, DROP, EXPORT, *shown):
-        image = None if words == CREATE else OLD_IMAGE
+    many = ("load", "--progress", "cache", "many_new.csv")
+    for words in (CREATE, LOAD, many, REBUILD, DROP, EXPORT, *shown):
+        image = None if words == CREATE else MANY_IMAGE if words == many else OLD_IMAGE
         prepare(image)
         bench.done(*words)
         wanted = left()
@@ -130,11 +131,11 @@ def progress_that_nobody_reads(bench):
     os.close(closed[0])
     fill(full[1])
     for pipe in (closed[1], full[1]):
-        write("cache", OLD_IMAGE)
-        ran = bench.ended(bench.start("load", "--progress", "cache", "new.csv", err=pipe), signal.SIGPIPE)
+        write("cache", MANY_IMAGE)
+        ran = bench.ended(bench.start("load", "--progress", "cache", "many_new.csv", err=pipe), signal.SIGPIPE)
         by_the_pipe = (ran.status, pipe) == (-signal.SIGPIPE, closed[1])
         holds(f"a load whose progress nobody reads: {ran}", ran.status == 0 or by_the_pipe)
-        same("list", bench.silent("list", "cache"), rows(NEW))
+        same("list", bench.silent("list", "cache"), rows(MANY_NEW))
     for end in (*full, closed[1]):
         os.close(end)
 

@@ -8,8 +8,8 @@ from functools import partial
 
 import second
 from bench_tools import (
-    HEADING, LOADED, NEW, OPTIONS, REBUILT, ROOT, SENTENCES, WORK, Certificate, certificates_in, holds, path_of, read, row,
-    rows, same, says, there, write, write_certificates)
+    HEADING, LOADED, MANY, MANY_LOADED, NEW, OPTIONS, REBUILT, ROOT, SENTENCES, WORK, Certificate, certificates_in, holds,
+    path_of, read, row, rows, same, says, there, write, write_certificates)
 from bench_wanted import NEW_IMAGE, fresh, loaded, pairs, reads, stored, wanted, without_generation
 
 COMMANDS = ("create", "load", "rebuild", "compare", "get", "find", "list", "export", "check", "drop")
@@ -179,16 +179,16 @@ def comparing(bench):
 
 
 def rebuilding(bench):
-    """Exactly the certificates of a file, whatever the cache had before."""
+    """Exactly the certificates of a file, whatever the cache had before, in the order of the lines that decide."""
     for before, certificates, out in (
             (fresh(), NEW, REBUILT), (NEW_IMAGE, NEW[::-1], REBUILT), (b"", NEW, REBUILT),
             (NEW_IMAGE, NEW[40:41], "cache rebuilt: 1 certificate\n"),
             (stored(fresh(), NEW[:9]), NEW + NEW[3:5], REBUILT)):
         write("cache", before)
         same("rebuild", bench.silent("rebuild", "cache", write_certificates("other.csv", certificates)), out)
-        firsts = list(dict.fromkeys(certificates))
-        holds("the file", without_generation(read("cache")) == without_generation(stored(fresh(), firsts)))
-        same("list", reads(bench, "cache", "list").out, rows(firsts))
+        deciding = list(dict.fromkeys(certificates[::-1]))[::-1]
+        holds("the file", without_generation(read("cache")) == without_generation(stored(fresh(), deciding)))
+        same("list", reads(bench, "cache", "list").out, rows(deciding))
         holds("nothing is left beside it", not there("cache.rebuilding"))
 
 
@@ -228,7 +228,7 @@ def full_output(bench):
             same(f"{words} on a full disk", bench.ended(bench.start(*words, out=full)).status, 74)
 
 
-PROGRESS = [f"{done} of 300 certificates" for done in (64, 128, 192, 256, 300)]
+PROGRESS = [f"{done} of 2098 certificates" for done in (1024, 2048, 2098)]
 
 
 def on_a_terminal(bench, *words):
@@ -241,14 +241,15 @@ def on_a_terminal(bench, *words):
 
 
 def progress(bench):
-    write("cache", fresh())
-    same("not asked for", bench.silent("load", "cache", "new.csv"), LOADED)
-    asked = bench.run("load", "--progress", "cache", "new.csv")
-    same("asked for", (asked.status, asked.out, asked.err.splitlines()), (0, LOADED, PROGRESS))
-    says(bench.run("load", "--progress", "--older", "cache", "old.csv"), *PROGRESS)
-    shown = on_a_terminal(bench, "load", "cache", "new.csv")
-    same("on a terminal", (shown.status, shown.out), (0, LOADED))
+    write("cache", fresh(MANY))
+    same("not asked for", bench.silent("load", "cache", "many_new.csv"), MANY_LOADED)
+    asked = bench.run("load", "--progress", "cache", "many_new.csv")
+    same("asked for", (asked.status, asked.out, asked.err.splitlines()), (0, MANY_LOADED, PROGRESS))
+    says(bench.run("load", "--progress", "--older", "cache", "many_old.csv"), *PROGRESS)
+    shown = on_a_terminal(bench, "load", "cache", "many_new.csv")
+    same("on a terminal", (shown.status, shown.out), (0, MANY_LOADED))
     says(shown, *PROGRESS)
+    same("one batch needs none", bench.run("load", "--progress", write("cache", fresh()), "new.csv").err, "")
 
 
 COMMANDS_PARTS = (usage, creating, other_files, reading, dropping, spelling, exporting, exporting_beside_others, comparing, rebuilding,

@@ -11,24 +11,25 @@ from itertools import count, product
 
 import second
 from bench_kills import kills
-from bench_shim import CREATE, LOAD, REBUILD, calls_of, held, renaming, stopped, wait_for_stop
+from bench_shim import CREATE, LOAD, LOAD_MANY, REBUILD, calls_of, held, renaming, stopped, wait_for_stop
 from bench_tools import (
-    BATCH, BETWEEN, COUNTS, GENERATION, NEW, OLD, OPTIONS, RANDOM, SENTENCES, TOTAL, certificates_in, holds, path_of, read,
-    rows, same, says, there, write)
-from bench_wanted import OLD_IMAGE, agrees, changed, fresh, pairs
+    BATCH, BETWEEN, COUNTS, GENERATION, MANY, MANY_NEW, MANY_OLD, NEW, OLD, OPTIONS, RANDOM, SENTENCES, TOTAL, certificates_in,
+    holds, path_of, read, rows, same, says, there, write)
+from bench_wanted import MANY_IMAGE, OLD_IMAGE, agrees, changed, fresh, pairs
 
 
 def commits_of(calls):
     """The numbers of the calls that make the generation odd, and of those that make it even again. The last commit is of
     the user fields."""
     places = [number for number, call in enumerate(calls, 1) if call.name == "pwrite" and call.offset == GENERATION]
-    same("two writes of the generation for a commit", len(places), 2 * (len(BETWEEN) - 1))
+    same("two writes of the generation for a commit", len(places) % 2, 0)
     return list(zip(places[::2], places[1::2]))
 
 
 def points_to_hold(calls):
     """Before each commit, and at the calls around it; within the first and the last, also after a call, or half of one."""
     commits = commits_of(calls)
+    same("commits", len(commits), len(BETWEEN) - 1)
     points = {(odd, 0) for odd, _ in commits} | {(2, 0), (len(calls) - 2, 0), (len(calls), 0)}
     within = {(at, half) for odd, even in commits[::4] for at in (odd + 1, odd + 17, even) for half in (0, 1)}
     return sorted(points | within)
@@ -37,14 +38,14 @@ def points_to_hold(calls):
 def beside_a_held_writer(bench):
     """Readers while a writer holds the lock and stands still: between commits they see the last one, within one busy. What
     is DIRTY has no checksum."""
-    calls = calls_of(bench, OLD_IMAGE, *LOAD)
+    calls = calls_of(bench, MANY_IMAGE, *LOAD_MANY)
     commits = commits_of(calls)
     for number, half in bench.some(points_to_hold(calls)):
         published = sum(even < number + half for _, even in commits)
         within = any(odd < number and number + half <= even for odd, even in commits)
-        write("cache", OLD_IMAGE)
-        with held(bench, number, *LOAD, half=half):
-            tried = [("list",), ("check",), ("get", RANDOM.choice(NEW).serial)]
+        write("cache", MANY_IMAGE)
+        with held(bench, number, *LOAD_MANY, half=half):
+            tried = [("list",), ("check",), ("get", RANDOM.choice(MANY_NEW).serial)]
             started = [bench.start(command, "cache", *words) for command, *words in tried]
             for ran, words in zip(map(bench.ended, started), tried):
                 agrees(ran, read("cache"), 1, *words)
@@ -56,11 +57,11 @@ def beside_a_held_writer(bench):
 
 def exports_are_whole(bench):
     """Beside a writer an export is of a CLEAN cache, or there is none: half a load could be taken for all certificates."""
-    calls = calls_of(bench, OLD_IMAGE, *LOAD)
+    calls = calls_of(bench, MANY_IMAGE, *LOAD_MANY)
     for number in (1, 2, commits_of(calls)[1][0], len(calls) - 1, len(calls)):
-        write("cache", OLD_IMAGE)
-        with held(bench, number, *LOAD):
-            clean = second.header_test(read("cache"), OPTIONS) == 0
+        write("cache", MANY_IMAGE)
+        with held(bench, number, *LOAD_MANY):
+            clean = second.header_test(read("cache"), MANY) == 0
             same(f"export while the writer is held at {number}", bench.run("export", "cache", "part.csv").status,
                  0 if clean else 4)
             same("the file", there("part.csv"), clean)
@@ -70,12 +71,12 @@ def exports_are_whole(bench):
 
 def going_on(bench):
     """A reader that meets a commit, a begin or a checkpoint half done waits for its end, and does not answer 4 or 1."""
-    calls = calls_of(bench, OLD_IMAGE, *LOAD)
+    calls = calls_of(bench, MANY_IMAGE, *LOAD_MANY)
     odd, even = commits_of(calls)[1]
     for number, half in ((odd + 5, 0), (odd + 20, 1), (even, 0), (1, 1), (len(calls) - 1, 1)):
-        write("cache", OLD_IMAGE)
+        write("cache", MANY_IMAGE)
         write("held", b"")
-        with held(bench, number, *LOAD, half=half) as writer:
+        with held(bench, number, *LOAD_MANY, half=half) as writer:
             reader = bench.start("list", "cache", KILL_HELD=path_of("held"))
             while not read("held") and reader.poll() is None:
                 time.sleep(0.001)
@@ -88,14 +89,14 @@ def going_on(bench):
 
 def torn_copies(bench):
     """A reader that stops in the middle of its copy while commits go on: the copy is not used."""
-    for odd, _ in commits_of(calls_of(bench, OLD_IMAGE, *LOAD)):
-        write("cache", OLD_IMAGE)
-        with held(bench, odd, *LOAD) as writer, stopped(bench, "list", "cache", KILL_COPY=1) as reader:
+    for odd, _ in commits_of(calls_of(bench, MANY_IMAGE, *LOAD_MANY)):
+        write("cache", MANY_IMAGE)
+        with held(bench, odd, *LOAD_MANY) as writer, stopped(bench, "list", "cache", KILL_COPY=1) as reader:
             writer.send_signal(signal.SIGCONT)
             same("the writer", bench.ended(writer).status, 0)
             reader.send_signal(signal.SIGCONT)
             ran = bench.ended(reader)
-            same(f"the reader: {ran.err}", (ran.status, ran.out), (0, rows(NEW)))
+            same(f"the reader: {ran.err}", (ran.status, ran.out), (0, rows(MANY_NEW)))
 
 
 def locked_out(bench):
@@ -179,7 +180,7 @@ def replaced_meanwhile(bench):
 def left_in_the_gap(bench):
     """A shared lock is given back before it becomes an exclusive one. What a writer begins and leaves in between, is not
     believed beside the one that then has the lock."""
-    _, even = commits_of(calls_of(bench, OLD_IMAGE, *LOAD))[1]
+    _, even = commits_of(calls_of(bench, OLD_IMAGE, *LOAD))[0]
     write("cache", OLD_IMAGE)
     with stopped(bench, *REBUILD, KILL_LOCK=2, KILL_AT=1, KILL_SIGNAL=signal.SIGSTOP) as rebuild:
         same("a killed load", bench.run(*LOAD, KILL_AT=even + 1).status, -9)
@@ -205,7 +206,7 @@ def two_creates(bench):
 
 # A reader beside a writer at full speed.
 
-DROPPED = [c.serial for c in NEW[20:300:70]]
+DROPPED = [c.serial for c in MANY_NEW[20::600]]
 
 
 def keep_writing(bench, until, failures):
@@ -217,7 +218,7 @@ def keep_writing(bench, until, failures):
                 return
             if turn % 3 == 0 and turn < 600:
                 bench.done("drop", "cache", DROPPED[turn % len(DROPPED)])
-            words = ("load", "--older", "cache", ("old.csv", "new.csv")[turn % 2])
+            words = ("load", "--older", "cache", ("many_old.csv", "many_new.csv")[turn % 2])
             bench.done(*words, **({"KILL_PAUSE": 1} if turn % 4 == 3 else {}))
     except SystemExit as failure:
         failures.append(failure)
@@ -225,25 +226,26 @@ def keep_writing(bench, until, failures):
 
 def one_moment(out):
     """A list is of one moment: the commits before it are of one set of certificates, those after it of the other."""
-    sets = {c: name for name, certificates in (("old", OLD), ("new", NEW)) for c in certificates}
+    sets = {c: name for name, certificates in (("old", MANY_OLD), ("new", MANY_NEW)) for c in certificates}
     certificates = certificates_in(out)
     listed = {c.serial: sets.get(c) for c in certificates}
     holds(f"a wrong gain, or a serial twice: {out}", None not in listed.values() and len(listed) == len(certificates))
-    holds(f"missing: {out}", all(c.serial in listed or c.serial in DROPPED for c in NEW))
-    firm = [{listed[c.serial] for c in NEW[at:at + BATCH] if c.serial not in DROPPED} for at in range(0, len(NEW), BATCH)]
+    holds(f"missing: {out}", all(c.serial in listed or c.serial in DROPPED for c in MANY_NEW))
+    firm = [{listed[c.serial] for c in MANY_NEW[at:at + BATCH] if c.serial not in DROPPED}
+            for at in range(0, len(MANY_NEW), BATCH)]
     holds(f"half a commit: {out}", all(len(names) == 1 for names in firm))
     holds(f"commits out of order: {out}", sum(a != b for a, b in zip(firm, firm[1:])) <= 1)
 
 
 def read_once(bench):
     """One read: a right certificate, busy, or not present where it may have been dropped."""
-    serial = RANDOM.choice((RANDOM.choice(NEW).serial, RANDOM.choice(DROPPED)))
+    serial = RANDOM.choice((RANDOM.choice(MANY_NEW).serial, RANDOM.choice(DROPPED)))
     words = RANDOM.choice((("list", "cache"), ("get", "cache", serial)))
     held = len(read("held"))
     ran = bench.run(*words, KILL_HELD=path_of("held"))
     holds(f"{words} beside a writer: {ran}", ran.status in (0, 4) or ran.status == 9 and serial in DROPPED)
     if ran.status == 0 and words[0] == "get":
-        holds(ran.out, pairs(ran.out)[0] in [c for c in OLD + NEW if c.serial == serial])
+        holds(ran.out, pairs(ran.out)[0] in [c for c in MANY_OLD + MANY_NEW if c.serial == serial])
     elif ran.status == 0:
         one_moment(ran.out)
     COUNTS["reads beside a writer"] += 1
@@ -252,7 +254,7 @@ def read_once(bench):
 
 
 def beside(bench):
-    write("cache", OLD_IMAGE)
+    write("cache", MANY_IMAGE)
     write("held", b"")
     failures = []
     writer = threading.Thread(target=keep_writing, args=(bench, time.monotonic() + 4, failures))

@@ -9,6 +9,7 @@ from bench_tools import NEW, holds, path_of, read, same, write
 
 Call = namedtuple("Call", "name offset data")
 LOAD = ("load", "cache", "new.csv")
+LOAD_MANY = ("load", "cache", "many_new.csv")
 REBUILD = ("rebuild", "cache", "new.csv")
 DROP = ("drop", "cache", NEW[0].serial)
 CREATE = ("create", "cache")

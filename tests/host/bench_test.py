@@ -18,7 +18,7 @@ from bench_commands import COMMANDS_PARTS
 from bench_damage import DAMAGE_PARTS
 from bench_kills import KILLS_PARTS
 from bench_readers import READERS_PARTS
-from bench_tools import COUNTED, COUNTS, NEW, OLD, WORK, Bench, path_of, write_certificates
+from bench_tools import COUNTED, COUNTS, MANY_NEW, MANY_OLD, NEW, OLD, WORK, Bench, path_of, write_certificates
 
 PARTS = (COMMANDS_PARTS, CERTIFICATES_PARTS, DAMAGE_PARTS, CALLS_PARTS, KILLS_PARTS, READERS_PARTS)
 
@@ -31,8 +31,8 @@ def main():
     for parts in PARTS:
         for name in os.listdir(WORK):
             os.unlink(path_of(name))
-        write_certificates("new.csv", NEW)
-        write_certificates("old.csv", OLD)
+        for name, certificates in (("new.csv", NEW), ("old.csv", OLD), ("many_new.csv", MANY_NEW), ("many_old.csv", MANY_OLD)):
+            write_certificates(name, certificates)
         for part in parts:
             part(Bench(program, int(step)))
     counts = ", ".join(f"{COUNTS[what]} {what}" for what in COUNTED)

@@ -18,7 +18,7 @@ BUILT, WORK = (os.path.abspath(folder) for folder in sys.argv[1:3])
 ROOT = os.path.abspath(os.path.join(os.path.dirname(__file__), "..", ".."))
 OPTIONS = second.Options(12, 20, 512, 1, 0, 0)
 TOTAL = second.total_size(OPTIONS)
-BATCH = 64
+BATCH = second.BATCH_LIMIT
 GENERATION = second.FIELDS["generation"][0]
 
 Certificate = namedtuple("Certificate", "serial revision gain")
@@ -30,6 +30,7 @@ SENTENCES = {1: "needs a rebuild", 2: "is incompatible", 3: "was given up", 4: "
 # What that sentence tells to run.
 ADVICE = {1: "bench rebuild", 3: "bench rebuild", 10: "bench create"}
 LOADED = "300 certificates loaded, 300 live\n"
+MANY_LOADED = "2098 certificates loaded, 2098 live\n"
 REBUILT = "cache rebuilt: 300 certificates\n"
 RANDOM = random.Random(1)
 COUNTS = Counter()
@@ -100,10 +101,22 @@ def certificates_in(listed):
 
 with open(os.path.join(ROOT, "examples", "certificates.csv")) as of_the_example:
     NEW = certificates_in(of_the_example.read())
-# Other certificates for the same serials. Every word of a revision and a gain differs, and NEW's revisions are newer.
-OLD = [Certificate(c.serial, c.revision - 1000, f"{number / 8:+013.4f}{number:07}") for number, c in enumerate(NEW)]
-# What a reader may see while NEW is loaded over OLD: whole commits. The last commit changes the user fields alone.
-BETWEEN = [NEW[:number] + OLD[number:] for number in range(0, len(NEW) + BATCH, BATCH)] + [NEW]
+
+
+def older(certificates):
+    """Other certificates for the same serials. Every word of a revision and a gain differs, and revisions are older."""
+    return [Certificate(c.serial, c.revision - 1000, f"{number / 8:+013.4f}{number:07}")
+            for number, c in enumerate(certificates)]
+
+
+OLD = older(NEW)
+# More than two batches, for caches of more than 256 KiB. MANY_NEW is loaded by several commits.
+MANY = OPTIONS._replace(slot_capacity=2400)
+MANY_NEW = [Certificate(f"CM5-{2000 + number // 100}-{number % 100:03}", number % 5, f"+{number % 40}.{number:04}")
+            for number in range(2 * BATCH + 50)]
+MANY_OLD = older(MANY_NEW)
+# What a reader may see while MANY_NEW is loaded over MANY_OLD: whole commits. The last commit changes the user fields alone.
+BETWEEN = [MANY_NEW[:number] + MANY_OLD[number:] for number in range(0, len(MANY_NEW) + BATCH, BATCH)] + [MANY_NEW]
 
 
 # The program.

@@ -5,11 +5,17 @@ from functools import lru_cache
 
 import second
 from bench_tools import (
-    ADVICE, BATCH, GENERATION, HEADING, NEW, OLD, OPTIONS, SENTENCES, TOTAL, Certificate, holds, read, same, says, write,
+    ADVICE, BATCH, GENERATION, HEADING, MANY, MANY_OLD, NEW, OLD, OPTIONS, SENTENCES, Certificate, holds, read, same, says, write,
     write_certificates)
 from images import record_of
 
 # Images.
+
+def options_of(image, role=0):
+    """The options under which bench judges a file: the slots are the header's, where a cache may have so many."""
+    slots = second.field(image, "slot_capacity") if len(image) >= 40 else 0
+    return OPTIONS._replace(role=role, **({"slot_capacity": slots} if 1 <= slots <= second.CAPACITY_LIMIT else {}))
+
 
 def changed(image, **fields):
     image = bytearray(image)
@@ -25,7 +31,7 @@ def flipped(image, place, bit):
 
 def struck_out(image):
     """What a dead writer left, and readers beside the next writer must not believe, may be made odd."""
-    left = len(image) == TOTAL and second.field(image, "state") == second.DIRTY
+    left = len(image) == second.total_size(options_of(image)) and second.field(image, "state") == second.DIRTY
     return changed(image, generation=second.field(image, "generation") | 1) if left else image
 
 
@@ -41,12 +47,12 @@ def crc32c(data):
 
 
 def mark_of(image):
-    return MARK + crc32c(bytes(image[256:TOTAL])).to_bytes(8, "little")
+    return MARK + crc32c(bytes(image[256:])).to_bytes(8, "little")
 
 
 def checksum(image, role):
     """What is known of an image's checksum. It holds for CLEAN images that pass the header test."""
-    if second.header_test(image, OPTIONS._replace(role=role)) or second.field(image, "state") != second.CLEAN:
+    if second.header_test(image, options_of(image, role)) or second.field(image, "state") != second.CLEAN:
         return UNKNOWN
     kept = second.field(image, "user_data").to_bytes(64, "little")[:16]
     if not kept.startswith(MARK):
@@ -68,7 +74,7 @@ def record(c, put):
 
 def stored(image, certificates, put=True):
     """The image after a load, or a drop, of certificates: a begin, commits, the mark in the user data, and a checkpoint."""
-    image, held = bytearray(image), OPTIONS._replace(role=2)
+    image, held = bytearray(image), options_of(image, role=2)
     answers = [second.begin(image, held)]
     for at in range(0, len(certificates), BATCH):
         answers.append(second.commit(image, held, b"".join(record(c, put) for c in certificates[at:at + BATCH])))
@@ -78,10 +84,11 @@ def stored(image, certificates, put=True):
     return bytes(image)
 
 
-def fresh():
+@lru_cache
+def fresh(options=OPTIONS):
     """What create makes."""
-    image = bytearray(TOTAL)
-    second.create(image, OPTIONS)
+    image = bytearray(second.total_size(options))
+    second.create(image, options)
     return stored(image, [])
 
 
@@ -99,12 +106,12 @@ def gain_of(slot):
 
 
 def shown(image, number):
-    slot = second.Table(image, OPTIONS).slot(number)
+    slot = second.Table(image, options_of(image)).slot(number)
     return f"{spelled(slot.key)} slot {number} revision {slot.revision} gain {gain_of(slot)}"
 
 
 def listed(image):
-    live = [slot for slot in second.Table(image, OPTIONS).slots() if slot.meta == 1]
+    live = [slot for slot in second.Table(image, options_of(image)).slots() if slot.meta == 1]
     return HEADING + "".join(f"{spelled(slot.key)},{slot.revision},{gain_of(slot)}\n" for slot in live)
 
 
@@ -139,14 +146,17 @@ def wanted(image, role, command, *words):
     """The answer and the output for an image. One with a wrong checksum needs a rebuild, and nothing of it is shown."""
     if command != "check" and checksum(image, role) == WRONG:
         return 1, ""
-    return WANTED[command](image, OPTIONS._replace(role=role), *words)
+    return WANTED[command](image, options_of(image, role), *words)
 
 
 def length_said(image, role=0):
     """What is said of the length of an image, where it is to be rebuilt: nothing, or a line."""
-    if second.header_test(image, OPTIONS._replace(role=role)) not in (1, 3) or len(image) == TOTAL:
+    options = options_of(image, role)
+    slots, total = options.slot_capacity, second.total_size(options)
+    if second.header_test(image, options) not in (1, 3) or len(image) == total:
         return []
-    return [f"is {'longer' if len(image) > TOTAL else 'shorter'} than a cache, which has exactly {TOTAL} bytes\n"]
+    than = f"{'longer' if len(image) > total else 'shorter'} than a cache of {slots} slot{'s' * (slots > 1)}"
+    return [f"is {than}, which has exactly {total} bytes\n"]
 
 
 def agrees(ran, image, role, command, *words):
@@ -193,3 +203,4 @@ def loaded(bench, name, certificates):
 
 
 OLD_IMAGE, NEW_IMAGE = stored(fresh(), OLD), stored(fresh(), NEW)
+MANY_IMAGE = stored(fresh(MANY), MANY_OLD)

@@ -9,6 +9,10 @@
 /* The options of most files here. */
 static const slc1_options SMALL = {12, 20, 512, 1, 0, 0};
 
+/* Those of files that take more than two batches. */
+enum { SLOTS_OF_MANY = 2 * SLC1_BATCH_LIMIT + 50 };
+static const slc1_options MANY = {12, 20, SLOTS_OF_MANY, 1, 0, 0};
+
 static size_t progressed;
 
 static inline void count_progress(size_t done, size_t all)

@@ -96,6 +96,7 @@ static void beside_a_writer(void)
 
 static struct store_reader beside;
 static int64_t seen;
+static size_t commits;
 
 static void read_beside(size_t done, size_t all)
 {
@@ -105,19 +106,21 @@ static void read_beside(size_t done, size_t all)
     same(STORE_UNCHECKED, beside.image.checksum);
     same(done, slc1_full_check_live(STORE_LENT(&beside.image)));
     seen = revision_in(&beside);
+    commits++;
 }
 
 static void beside_commits(void)
 {
-    struct store_records records = puts_of(&SMALL, 200, 5);
+    struct store_records records = puts_of(&MANY, SLOTS_OF_MANY, 5);
     struct store_writer writer;
 
-    same(SLC1_DONE, store_create("commits", &SMALL));
-    same(SLC1_DONE, store_open_reader(&beside, "commits", &SMALL, STORE_VERIFY));
-    same(SLC1_DONE, store_open_writer(&writer, "commits", &SMALL));
+    same(SLC1_DONE, store_create("commits", &MANY));
+    same(SLC1_DONE, store_open_reader(&beside, "commits", &MANY, STORE_VERIFY));
+    same(SLC1_DONE, store_open_writer(&writer, "commits", &MANY));
     writer.progress = read_beside;
     same(SLC1_DONE, store_update(&writer, &records));
     same(5, seen);
+    same(3, commits);
     store_close_writer(&writer);
     same(SLC1_DONE, store_read(&beside));
     same(SLC1_NO_WRITER_KNOWN, beside.image.options.role);

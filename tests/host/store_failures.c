@@ -16,6 +16,7 @@
 #include "store_wrapped.h"
 
 static const slc1_options OPTIONS = {12, 20, 512, 1, 0, 0};
+enum { MORE = 100 }; /* the slots by which a larger file exceeds these */
 
 /* The operations, on the file "cache". Each gives back its answer, with errno as the store left it. */
 
@@ -72,6 +73,17 @@ static uint32_t rebuild(const struct store_records *records)
     return written(records, store_rebuild);
 }
 
+static uint32_t rebuild_larger_now(struct store_writer *writer, const struct store_records *records)
+{
+    writer->slot_capacity = OPTIONS.slot_capacity + MORE;
+    return store_rebuild(writer, records);
+}
+
+static uint32_t rebuild_larger(const struct store_records *records)
+{
+    return written(records, rebuild_larger_now);
+}
+
 /* Where an operation begins, and where it ends if nothing fails. */
 struct work {
     const char *name;
@@ -124,6 +136,15 @@ static bool is_untouched(const struct work *work)
     return work->before == NULL ? access("cache", F_OK) != 0 : is_contents("cache", work->before);
 }
 
+static bool needs_rebuild(const struct work *work)
+{
+    slc1_options options = OPTIONS;
+
+    if (work->before->length > slc1_total_size(SLC1_OPTIONS(&OPTIONS)))
+        options.slot_capacity += MORE;
+    return contents_answer("cache", &options) == SLC1_NEEDS_REBUILD;
+}
+
 /* What a dead writer left may be struck out, its generation made odd, and nothing else. */
 static bool is_struck_out(const struct work *work)
 {
@@ -134,7 +155,7 @@ static bool is_struck_out(const struct work *work)
     flip("cache", SLC1_GENERATION_AT);
     is = is_untouched(work);
     flip("cache", SLC1_GENERATION_AT);
-    return is && contents_answer("cache", &OPTIONS) == SLC1_NEEDS_REBUILD;
+    return is && needs_rebuild(work);
 }
 
 static size_t owners; /* that a new file could not be given to */
@@ -150,7 +171,7 @@ static void ends_well(const struct work *work, uint32_t answer)
         holds(is_untouched(work));
     else
         holds(is_untouched(work) || is_done(work) || is_struck_out(work) ||
-              (work->run == update && contents_answer("cache", &OPTIONS) == SLC1_NEEDS_REBUILD));
+              (work->run == update && needs_rebuild(work)));
 }
 
 static size_t failures;
@@ -229,21 +250,28 @@ static void locked(const struct bytes *good)
 
 int main(int count, char **words)
 {
-    struct bytes empty = {(uint8_t *)"", 0}, good, dirty;
+    struct bytes empty = {(uint8_t *)"", 0}, good, dirty, other;
 
     if (count != 2 || chdir(words[1]) != 0)
         return 64;
     some = puts_of(&OPTIONS, 100, 1);
     holds(store_create("cache", &OPTIONS) == SLC1_DONE && update(&some) == SLC1_DONE);
     good = contents("cache");
-    dirty = contents("cache");
+    same(SLC1_DONE, rebuild_larger(&some));
+    other = contents("cache");
+    dirty = (struct bytes){malloc(good.length), good.length};
+    holds(dirty.bytes != NULL);
+    memcpy(dirty.bytes, good.bytes, good.length);
     dirty_image(&dirty, &OPTIONS);
     free(some.bytes);
     some = puts_of(&OPTIONS, 100, 2);
     struct work works[] = {{"create", create, NULL, {NULL, 0}},     {"create", create, &empty, {NULL, 0}},
                            {"read", read_twice, &good, {NULL, 0}},  {"update", update, &good, {NULL, 0}},
                            {"rebuild", rebuild, &good, {NULL, 0}},  {"rebuild", rebuild, &empty, {NULL, 0}},
-                           {"rebuild", rebuild, &dirty, {NULL, 0}}};
+                           {"rebuild", rebuild, &dirty, {NULL, 0}},
+                           {"rebuild with more slots", rebuild_larger, &good, {NULL, 0}},
+                           {"read one of other slots", read_twice, &other, {NULL, 0}},
+                           {"update one of other slots", update, &other, {NULL, 0}}};
 
     for (size_t i = 0; i < COUNT(works); i++)
         fail_each(&works[i]);
@@ -254,6 +282,7 @@ int main(int count, char **words)
     free(some.bytes);
     free(good.bytes);
     free(dirty.bytes);
+    free(other.bytes);
     printf("the store survives: %zu failures, %zu comparisons\n", failures, comparisons);
     return 0;
 }
