@@ -2,6 +2,7 @@
 """Draws the buckets of an SLC1 image as a strip, by how far each key stands from its home bucket.
 
 usage: examples/strip.py FILE > strip.svg
+  FILE has at most 8,192 buckets, those of 4,096 slots: more would be too many to look at.
 """
 
 import sys
@@ -9,6 +10,7 @@ from struct import iter_unpack, unpack_from
 
 HEADER_SIZE = 256
 EMPTY, TOMBSTONE = 0, 2**64 - 1
+MOST_BUCKETS = 8192
 
 # FULL buckets by distance from home: the least distance, a fill that is darker the farther, words.
 DISTANCES = [
@@ -41,6 +43,8 @@ def buckets_in(image):
     if len(image) != end:
         length = "short" if len(image) < end else "long"
         return f"is too {length}: its {count:,} buckets end at {end:,}, and it has {len(image):,} bytes"
+    if count > MOST_BUCKETS:
+        return f"has {count:,} buckets, and more than {MOST_BUCKETS:,} are not drawn: take a cache of fewer slots"
     return list(iter_unpack("<QQ", image[offset:end]))
 
 

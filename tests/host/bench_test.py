@@ -13,6 +13,7 @@ import time
 sys.path.append(sys.path[0] + "/../second")
 
 from bench_calls import CALLS_PARTS
+from bench_capacity import CAPACITY_PARTS
 from bench_certificates import CERTIFICATES_PARTS
 from bench_commands import COMMANDS_PARTS
 from bench_damage import DAMAGE_PARTS
@@ -20,7 +21,7 @@ from bench_kills import KILLS_PARTS
 from bench_readers import READERS_PARTS
 from bench_tools import COUNTED, COUNTS, MANY_NEW, MANY_OLD, NEW, OLD, WORK, Bench, path_of, write_certificates
 
-PARTS = (COMMANDS_PARTS, CERTIFICATES_PARTS, DAMAGE_PARTS, CALLS_PARTS, KILLS_PARTS, READERS_PARTS)
+PARTS = (COMMANDS_PARTS, CERTIFICATES_PARTS, CAPACITY_PARTS, DAMAGE_PARTS, CALLS_PARTS, KILLS_PARTS, READERS_PARTS)
 
 
 def main():
