@@ -88,14 +88,15 @@ static void require_gain(const char *where, const char *text)
         fail(SLC1_INVALID_INPUT, "%sgain '%s' is not a number such as +21.523", where, text);
 }
 
-/* Room for a further certificate. */
+/* Room for a further certificate. It is doubled where it is used up: what is copied then stays in proportion to the file. */
 static uint8_t *add_line(struct certificates *all, size_t number)
 {
     size_t count = all->records.count++;
 
-    if (count % SLC1_BATCH_LIMIT == 0) {
-        all->records.bytes = grown(all->records.bytes, (count + SLC1_BATCH_LIMIT) * RECORD_SIZE);
-        all->lines = grown(all->lines, (count + SLC1_BATCH_LIMIT) * sizeof *all->lines);
+    if (count == all->room) {
+        all->room = count == 0 ? SLC1_BATCH_LIMIT : 2 * count;
+        all->records.bytes = grown(all->records.bytes, all->room * RECORD_SIZE);
+        all->lines = grown(all->lines, all->room * sizeof *all->lines);
     }
     all->lines[count] = (struct line){number, true};
     return record_of(all, count);

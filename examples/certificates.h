@@ -40,6 +40,7 @@ struct certificates {
     const char *path;
     struct store_records records; /* a put for each */
     struct line *lines;
+    size_t room; /* for so many records and lines */
     const uint8_t **by_serial; /* the records by serial, those of one serial in the file's order */
 };
 
