@@ -34,7 +34,7 @@ static const char USAGE[] =
     "       bench --help, bench --version\n"
     "\n"
     "Right after load or rebuild, --older takes certificates that are older than the cache's or than an earlier line's, or\n"
-    "have another gain for the cache's revision; right after load, --progress shows how far it is, as on a terminal.\n"
+    "have another gain for the cache's revision, and --progress shows how far it is, as on a terminal.\n"
     "Right after create or rebuild, --capacity N makes a cache of N slots, 1 to 1048576, one for each serial; without it\n"
     "create makes one of 512, and rebuild one of as many as there were.\n"
     "\n"
@@ -47,7 +47,7 @@ static const char USAGE[] =
 enum { EXIT_USAGE = 64 };
 
 /* What stands right after the command. */
-enum { OLDER = 1, PROGRESS = 2, CAPACITY = 4 };
+enum { OLDER = 1, PROGRESS = 2, CAPACITY = 4, ALL_OPTIONS = OLDER | PROGRESS | CAPACITY };
 static int wanted;
 static uint64_t wanted_capacity; /* with CAPACITY */
 
@@ -437,19 +437,24 @@ static int create(char **words)
     return SLC1_DONE;
 }
 
-/* A line at a time, and none where it would have to wait, or where nobody reads: the cache is not whole meanwhile. */
+/* A line for each hundredth, and none where it would have to wait, or where nobody reads: the cache is not whole meanwhile. */
 static void show_progress(size_t done, size_t all)
 {
+    static size_t shown;
     bool terminal = isatty(STDERR_FILENO);
     struct pollfd err = {STDERR_FILENO, POLLOUT, 0};
+    size_t hundredths = done * 100 / all;
 
-    if (all > SLC1_BATCH_LIMIT && poll(&err, 1, 0) == 1 && err.revents == POLLOUT)
-        fprintf(stderr, "%s%zu of %zu certificates%s", terminal ? "\r" : "", done, all, terminal && done < all ? "" : "\n");
+    if (all > 2 * SLC1_BATCH_LIMIT && hundredths > shown && poll(&err, 1, 0) == 1 && err.revents == POLLOUT)
+        fprintf(stderr, "%s%zu %% done%s", terminal ? "\r" : "", hundredths, terminal && done < all ? "" : "\n");
+    shown = hundredths;
 }
 
 static void open_cache(struct store_writer *writer, const char *path)
 {
     require_done(store_open_writer(writer, path, &OPTIONS), path);
+    if (wanted & PROGRESS || isatty(STDERR_FILENO))
+        writer->progress = show_progress;
     warn_of(&writer->image, path);
 }
 
@@ -475,11 +480,8 @@ static int load(char **words)
 {
     struct store_writer writer;
     struct certificates all = prepare(&writer, words);
-    uint32_t answer;
+    uint32_t answer = store_update(&writer, &all.records);
 
-    if (wanted & PROGRESS || isatty(STDERR_FILENO))
-        writer.progress = show_progress;
-    answer = store_update(&writer, &all.records);
     if (answer == SLC1_FULL)
         refuse_full(words[0], writer.image.options.slot_capacity,
                     live(&writer) + certificates_count(&all, &writer.image), live(&writer));
@@ -549,7 +551,7 @@ static const struct command {
     int options;
     int (*run)(char **words);
 } COMMANDS[] = {
-    {"create", 1, CAPACITY, create},   {"load", 2, OLDER | PROGRESS, load}, {"rebuild", 2, OLDER | CAPACITY, rebuild},
+    {"create", 1, CAPACITY, create},   {"load", 2, OLDER | PROGRESS, load}, {"rebuild", 2, ALL_OPTIONS, rebuild},
     {"compare", 2, 0, compare},        {"get", 2, 0, get},                  {"find", 2, 0, find},
     {"list", 1, 0, list},              {"export", 2, 0, export},            {"check", 1, 0, check},
     {"drop", 2, 0, drop},

@@ -573,9 +573,16 @@ static uint32_t synced(struct store_writer *writer, uint32_t answer)
     return fdatasync(writer->file) != 0 ? STORE_FAILED : SLC1_DONE;
 }
 
+/* Who is told how far the work is, if anybody: that many records of all were done before. */
+struct told {
+    void (*progress)(size_t done, size_t all);
+    size_t before, all;
+};
+
 /* Commits the records to an image, and where there is a writer to its file. DIRTY is on the disk before any commit is,
  * and every commit before CLEAN is: after a power cut the file is as it was, or needs a rebuild, or the work is done. */
-static uint32_t change(struct store_image *image, const struct store_records *records, struct store_writer *writer)
+static uint32_t change(struct store_image *image, const struct store_records *records, struct store_writer *writer,
+                       struct told told)
 {
     uint32_t answer;
 
@@ -583,8 +590,8 @@ static uint32_t change(struct store_image *image, const struct store_records *re
     answer = synced(writer, followed(writer, slc1_begin(STORE_LENT(image))));
     for (size_t first = 0; answer == SLC1_DONE && first < records->count; first += SLC1_BATCH_LIMIT) {
         answer = followed(writer, commit(image, records, first));
-        if (answer == SLC1_DONE && writer != NULL && writer->progress != NULL)
-            writer->progress(batch_end(records, first), records->count);
+        if (answer == SLC1_DONE && told.progress != NULL)
+            told.progress(told.before + batch_end(records, first), told.all);
     }
     if (answer == SLC1_DONE)
         answer = synced(writer, followed(writer, renew_checksum(image)));
@@ -594,7 +601,7 @@ static uint32_t change(struct store_image *image, const struct store_records *re
 }
 
 /* What the records will be answered, tried on a copy: where they are refused, nothing has been written. */
-static uint32_t rehearse(const struct store_image *image, const struct store_records *records)
+static uint32_t rehearse(const struct store_image *image, const struct store_records *records, struct told told)
 {
     struct store_image trial = *image;
     uint32_t answer;
@@ -603,7 +610,7 @@ static uint32_t rehearse(const struct store_image *image, const struct store_rec
     if (trial.bytes == NULL)
         return STORE_FAILED;
     memcpy(trial.bytes, image->bytes, image->length);
-    answer = change(&trial, records, NULL);
+    answer = change(&trial, records, NULL, told);
     free(trial.bytes);
     return answer;
 }
@@ -618,15 +625,17 @@ uint32_t store_judge(const struct store_writer *writer)
 
 uint32_t store_update(struct store_writer *writer, const struct store_records *records)
 {
+    struct told told = {writer->progress, 0, 2 * records->count};
     uint32_t answer = store_judge(writer);
     sigset_t before;
 
     if (answer == SLC1_DONE)
-        answer = rehearse(&writer->image, records);
+        answer = rehearse(&writer->image, records, told);
     if (answer != SLC1_DONE)
         return answer;
+    told.before = records->count;
     hold_signals(&before);
-    answer = change(&writer->image, records, writer);
+    answer = change(&writer->image, records, writer, told);
     let_signals(&before);
     if (answer == SLC1_DONE)
         writer->image.checksum = STORE_RIGHT;
@@ -774,13 +783,13 @@ static uint32_t resize_writer(struct store_writer *writer)
 }
 
 /* Makes the private copy anew, of the records alone. */
-static uint32_t make_anew(struct store_image *image, const struct store_records *records)
+static uint32_t make_anew(struct store_image *image, const struct store_records *records, struct told told)
 {
     uint32_t answer;
 
     image->length = size_of(image);
     answer = slc1_create(STORE_LENT(image));
-    return answer == SLC1_DONE ? change(image, records, NULL) : answer;
+    return answer == SLC1_DONE ? change(image, records, NULL, told) : answer;
 }
 
 uint32_t store_rebuild(struct store_writer *writer, const struct store_records *records)
@@ -793,7 +802,7 @@ uint32_t store_rebuild(struct store_writer *writer, const struct store_records *
         answer = resize_writer(writer);
     if (answer != SLC1_DONE)
         return answer;
-    answer = make_anew(image, records);
+    answer = make_anew(image, records, (struct told){writer->progress, 0, records->count});
     hold_signals(&before);
     if (answer == SLC1_DONE)
         answer = replace_file(writer);

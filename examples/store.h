@@ -108,7 +108,7 @@ struct store_records {
  * the rest is the store's. */
 struct store_writer {
     struct store_image image;
-    void (*progress)(size_t done, size_t all); /* called after each commit, unless it is NULL */
+    void (*progress)(size_t done, size_t all); /* told of each commit how far the work is, unless it is NULL */
     uint64_t slot_capacity; /* of the file that a rebuild makes; the image's, unless another is set */
     const char *path;
     int file;           /* the file that `path` names, with its exclusive lock */
@@ -123,7 +123,7 @@ uint32_t store_open_writer(struct store_writer *writer, const char *path, const 
 /* Whether the image can be changed: the full check's answer, or SLC1_NEEDS_REBUILD where the checksum is wrong. */
 uint32_t store_judge(const struct store_writer *writer);
 
-/* Commits the records. SLC1_DONE; or the number by which the image (store_judge) or a batch is refused, and nothing is
+/* Commits the records, first to a copy and then to the file: of the work that progress is told, each is a half. SLC1_DONE; or the number by which the image (store_judge) or a batch is refused, and nothing is
  * written. After STORE_FAILED the file may need a rebuild. */
 uint32_t store_update(struct store_writer *writer, const struct store_records *records);
 

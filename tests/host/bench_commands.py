@@ -28,7 +28,7 @@ def usage(bench):
         holds(f"help names {command}", f"bench {command} " in help_text)
     same("version", bench.silent("--version"), f"bench {version_of_the_library()}\n")
     for words in ((), ("help",), ("create",), ("get", "a"), ("list", "a", "b"), ("load", "a", "b", "c"), ("--help", "a"),
-                  ("load", "--fast", "a", "b"), ("rebuild", "--progress", "a", "b"), ("compare", "--older", "a", "b"),
+                  ("load", "--fast", "a", "b"), ("compare", "--progress", "a", "b"), ("compare", "--older", "a", "b"),
                   ("get", "--older", "a", "b"), ("load", "a", "--older", "b"), ("load", "--older", "a"), ("export", "a"),
                   ("compare", "a"), ("list", "--help")):
         bench.refused(64, USAGE, *words)
@@ -228,7 +228,9 @@ def full_output(bench):
             same(f"{words} on a full disk", bench.ended(bench.start(*words, out=full)).status, 74)
 
 
-PROGRESS = [f"{done} of 2098 certificates" for done in (1024, 2048, 2098)]
+# Of 2098 certificates, after each batch: of a load half on a copy and half in the file.
+PROGRESS = [f"{done} % done" for done in (24, 48, 50, 74, 98, 100)]
+REBUILT_SO_FAR = [f"{done} % done" for done in (48, 97, 100)]
 
 
 def on_a_terminal(bench, *words):
@@ -249,6 +251,9 @@ def progress(bench):
     shown = on_a_terminal(bench, "load", "cache", "many_new.csv")
     same("on a terminal", (shown.status, shown.out), (0, MANY_LOADED))
     says(shown, *PROGRESS)
+    asked = bench.run("rebuild", "--progress", "cache", "many_new.csv")
+    same("a rebuild", (asked.status, asked.err.splitlines()), (0, REBUILT_SO_FAR))
+    same("not asked for", bench.silent("rebuild", "cache", "many_new.csv"), "cache rebuilt: 2098 certificates\n")
     same("one batch needs none", bench.run("load", "--progress", write("cache", fresh()), "new.csv").err, "")
 
 

@@ -32,7 +32,7 @@ static inline uint32_t update(const char *path, const slc1_options *options, siz
     progressed = 0;
     writer.progress = count % 2 == 0 ? count_progress : NULL;
     answer = store_update(&writer, &records);
-    holds(answer != SLC1_DONE || progressed == (count % 2 == 0 ? count : 0));
+    holds(answer != SLC1_DONE || progressed == (count % 2 == 0 ? 2 * count : 0));
     holds(answer != SLC1_DONE || store_judge(&writer) == SLC1_DONE);
     store_close_writer(&writer);
     free(records.bytes);

@@ -92,7 +92,7 @@ static void beside_a_writer(void)
     free(records.bytes);
 }
 
-/* A reader beside commits goes by the last of them, which has no checksum yet. */
+/* A reader beside commits goes by the last of them, which has no checksum yet; while they are tried on a copy it sees none. */
 
 static struct store_reader beside;
 static int64_t seen;
@@ -100,11 +100,12 @@ static size_t commits;
 
 static void read_beside(size_t done, size_t all)
 {
-    (void)all;
+    size_t written = done > all / 2 ? done - all / 2 : 0;
+
     same(SLC1_DONE, store_read(&beside));
     same(SLC1_ANOTHER_WRITER, beside.image.options.role);
-    same(STORE_UNCHECKED, beside.image.checksum);
-    same(done, slc1_full_check_live(STORE_LENT(&beside.image)));
+    same(written > 0 ? STORE_UNCHECKED : STORE_RIGHT, beside.image.checksum);
+    same(written, slc1_full_check_live(STORE_LENT(&beside.image)));
     seen = revision_in(&beside);
     commits++;
 }
@@ -120,7 +121,7 @@ static void beside_commits(void)
     writer.progress = read_beside;
     same(SLC1_DONE, store_update(&writer, &records));
     same(5, seen);
-    same(3, commits);
+    same(2 * 3, commits);
     store_close_writer(&writer);
     same(SLC1_DONE, store_read(&beside));
     same(SLC1_NO_WRITER_KNOWN, beside.image.options.role);

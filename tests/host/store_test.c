@@ -295,7 +295,7 @@ static void rebuilds_of_other_slots(void)
     free(records.bytes);
 }
 
-/* Within an update these signals wait, and no others. */
+/* While an update is written these signals wait, and no others; none while it is tried on a copy. */
 static void see_mask(size_t done, size_t all)
 {
     static const int WAITING[] = {SIGINT, SIGTERM, SIGHUP, SIGPIPE, SIGTSTP, SIGTTOU};
@@ -306,7 +306,7 @@ static void see_mask(size_t done, size_t all)
         bool waits = false;
 
         for (size_t i = 0; i < COUNT(WAITING); i++)
-            waits |= number == WAITING[i];
+            waits |= number == WAITING[i] && done > all / 2;
         same(waits, (uint64_t)sigismember(&mask, number));
     }
 }
