@@ -123,8 +123,9 @@ uint32_t store_open_writer(struct store_writer *writer, const char *path, const 
 /* Whether the image can be changed: the full check's answer, or SLC1_NEEDS_REBUILD where the checksum is wrong. */
 uint32_t store_judge(const struct store_writer *writer);
 
-/* Commits the records, first to a copy and then to the file: of the work that progress is told, each is a half. SLC1_DONE; or the number by which the image (store_judge) or a batch is refused, and nothing is
- * written. After STORE_FAILED the file may need a rebuild. */
+/* Commits the records, first to a copy and then to the file: each is half of the work that progress is told of. SLC1_DONE; or
+ * the number by which the image (store_judge) or a batch is refused, and nothing is written. After STORE_FAILED the file may
+ * need a rebuild. */
 uint32_t store_update(struct store_writer *writer, const struct store_records *records);
 
 /* Replaces the file by one with these records alone, once that is whole and synced. Its owner, its mode and symbolic

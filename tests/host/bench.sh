@@ -20,7 +20,7 @@ build_all() {
     local suffix=$1 flags=$2
     build $flags -c examples/store.c -o $out/store$suffix.o
     build $flags examples/bench.c examples/certificates.c $out/store$suffix.o $out/libslc1.a -o $out/bench$suffix
-    for test in store_test store_copies; do
+    for test in store_test store_slots store_copies; do
         build $flags tests/host/$test.c $out/store$suffix.o $out/libslc1.a -o $out/$test$suffix
     done
     build $flags $wrap tests/host/store_failures.c $out/store$suffix.o $out/libslc1.a -o $out/store_failures$suffix
@@ -45,7 +45,7 @@ calls=$(nm -u $out/store.o | awk '{ print $2 }' | grep -vxE "$known" || true)
 [ -z "$calls" ] || { echo "store_wrapped.h does not wrap: $calls"; exit 1; }
 
 for suffix in "" _sanitized; do
-    for test in store_test store_copies store_failures; do
+    for test in store_test store_slots store_copies store_failures; do
         mkdir "$work/$test$suffix"
         $out/$test$suffix "$work/$test$suffix"
     done

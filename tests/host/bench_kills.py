@@ -2,11 +2,11 @@
 
 import os
 
-from bench_shim import CREATE, DROP, LOAD, REBUILD, calls_of
+from bench_shim import CREATE, DROP, LOAD, LOAD_MANY, REBUILD, calls_of, commits_of
 from bench_tools import (
-    COUNTS, LOADED, NEW, OLD, RANDOM, REBUILT, SENTENCES, Bench, certificates_in, holds, path_of, read, rows, same, there,
-    write)
-from bench_wanted import OLD_IMAGE, fresh, pairs, reads, struck_out
+    COUNTS, LOADED, MANY_NEW, NEW, OLD, RANDOM, REBUILT, SENTENCES, Bench, certificates_in, holds, path_of, read, rows, same,
+    there, write)
+from bench_wanted import MANY_IMAGE, OLD_IMAGE, fresh, pairs, reads, struck_out
 
 
 def right(ran, certificates):
@@ -61,6 +61,18 @@ def killed_loads(bench):
     kills(bench, OLD_IMAGE, calls, chosen, (rows(OLD), rows(NEW)), *LOAD)
 
 
+def killed_between_commits(bench):
+    """A load of several batches, killed at the ends of each commit: some are in the file, and it needs a rebuild."""
+    commits = commits_of(calls_of(bench, MANY_IMAGE, *LOAD_MANY))
+    for number in (number for odd, even in commits for number in (odd, odd + 1, even, even + 1)):
+        begin_with(MANY_IMAGE)
+        same("a killed load", bench.run(*LOAD_MANY, KILL_AT=number).status, -9)
+        same(f"list after a kill at {number}", reads(bench, "cache", "list").status, 1)
+        COUNTS["kills"] += 1
+    same("rebuild after a kill", bench.done("rebuild", "cache", "many_new.csv"), "cache rebuilt: 2098 certificates\n")
+    same("list after a rebuild", reads(bench, "cache", "list").out, rows(MANY_NEW))
+
+
 def killed_drops(bench):
     calls = calls_of(bench, OLD_IMAGE, *DROP)
     for number in range(1, len(calls) + 1):
@@ -106,4 +118,4 @@ def power_cuts(bench):
         COUNTS["power cuts"] += 1
 
 
-KILLS_PARTS = (killed_loads, killed_drops, killed_creates, power_cuts)
+KILLS_PARTS = (killed_loads, killed_between_commits, killed_drops, killed_creates, power_cuts)

@@ -11,19 +11,11 @@ from itertools import count, product
 
 import second
 from bench_kills import kills
-from bench_shim import CREATE, LOAD, LOAD_MANY, REBUILD, calls_of, held, renaming, stopped, wait_for_stop
+from bench_shim import CREATE, LOAD, LOAD_MANY, REBUILD, calls_of, commits_of, held, renaming, stopped, wait_for_stop
 from bench_tools import (
-    BATCH, BETWEEN, COUNTS, GENERATION, MANY, MANY_NEW, MANY_OLD, NEW, OLD, OPTIONS, RANDOM, SENTENCES, TOTAL, certificates_in,
+    BATCH, BETWEEN, COUNTS, MANY, MANY_NEW, MANY_OLD, NEW, OLD, OPTIONS, RANDOM, SENTENCES, TOTAL, certificates_in,
     holds, path_of, read, rows, same, says, there, write)
 from bench_wanted import MANY_IMAGE, OLD_IMAGE, agrees, changed, fresh, pairs
-
-
-def commits_of(calls):
-    """The numbers of the calls that make the generation odd, and of those that make it even again. The last commit is of
-    the user fields."""
-    places = [number for number, call in enumerate(calls, 1) if call.name == "pwrite" and call.offset == GENERATION]
-    same("two writes of the generation for a commit", len(places) % 2, 0)
-    return list(zip(places[::2], places[1::2]))
 
 
 def points_to_hold(calls):

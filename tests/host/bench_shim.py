@@ -5,7 +5,7 @@ import signal
 from collections import namedtuple
 from contextlib import contextmanager
 
-from bench_tools import NEW, holds, path_of, read, same, write
+from bench_tools import GENERATION, NEW, holds, path_of, read, same, write
 
 Call = namedtuple("Call", "name offset data")
 LOAD = ("load", "cache", "new.csv")
@@ -22,6 +22,14 @@ def calls_of(bench, image, *words):
     bench.done(*words, KILL_CALLS=path_of("calls"))
     return [Call(name, int(offset), bytes.fromhex(data))
             for name, offset, data in (line.split(" ") for line in read("calls").decode().splitlines())]
+
+
+def commits_of(calls):
+    """The numbers of the calls that make the generation odd, and of those that make it even again. The last commit is of
+    the user fields."""
+    places = [number for number, call in enumerate(calls, 1) if call.name == "pwrite" and call.offset == GENERATION]
+    same("two writes of the generation for a commit", len(places) % 2, 0)
+    return list(zip(places[::2], places[1::2]))
 
 
 def renaming(calls):

@@ -5,8 +5,8 @@ from functools import lru_cache
 
 import second
 from bench_tools import (
-    ADVICE, BATCH, GENERATION, HEADING, MANY, MANY_OLD, NEW, OLD, OPTIONS, SENTENCES, Certificate, holds, read, same, says, write,
-    write_certificates)
+    ADVICE, BATCH, GENERATION, HEADING, MANY, MANY_OLD, NEW, OLD, OPTIONS, SENTENCES, Certificate, holds, read, same, says,
+    write, write_certificates)
 from images import record_of
 
 # Images.

@@ -239,62 +239,6 @@ static void other_files_are_not_replaced(void)
     same(SLC1_DONE, rebuild("text", &SMALL, 3, 1));
 }
 
-/* A file that is there has the slots of its header, whatever the options say. */
-static void slots_of_a_file(void)
-{
-    static const uint64_t OTHERS[] = {1, 511, 513, SLOTS_OF_MANY, 100000};
-    slc1_options other = SMALL;
-    struct store_reader reader;
-    struct store_writer writer;
-
-    same(SLC1_DONE, store_open_reader(&reader, "slots", &SMALL, 0));
-    for (size_t i = 0; i < COUNT(OTHERS); i++) {
-        other.slot_capacity = OTHERS[i];
-        same(SLC1_DONE, store_create("slots", &other));
-        same(SLC1_DONE, store_read(&reader)); /* stays open while the file is another */
-        same(OTHERS[i], reader.image.options.slot_capacity);
-        same(slc1_total_size(SLC1_OPTIONS(&other)), reader.image.length);
-        same(SLC1_DONE, store_open_writer(&writer, "slots", &SMALL));
-        same(OTHERS[i], writer.image.options.slot_capacity);
-        same(SLC1_DONE, store_judge(&writer));
-        store_close_writer(&writer);
-        same(SLC1_DONE, update("slots", &SMALL, 1, 1));
-        same(SLC1_DONE, rebuild("slots", &SMALL, 1, 2));
-        same(SLC1_DONE, contents_answer("slots", &other));
-        holds(unlink("slots") == 0);
-    }
-    store_close_reader(&reader);
-}
-
-/* A rebuild makes a file of as many slots as it is told, and leaves the old one alone where these are too few. */
-static void rebuilds_of_other_slots(void)
-{
-    struct store_records records = puts_of(&SMALL, 100, 1);
-    slc1_options other = SMALL;
-    struct store_writer writer;
-    struct bytes before;
-
-    same(SLC1_DONE, store_create("other slots", &SMALL));
-    before = contents("other slots");
-    for (const uint64_t *slots = (const uint64_t[]){99, 0, SLC1_CAPACITY_LIMIT + 1, UINT64_MAX, 100, 5000, 512}; ; slots++) {
-        bool fits = *slots >= 100 && *slots <= SLC1_CAPACITY_LIMIT;
-
-        same(SLC1_DONE, store_open_writer(&writer, "other slots", &SMALL));
-        writer.slot_capacity = other.slot_capacity = *slots;
-        same(fits ? SLC1_DONE : *slots == 99 ? SLC1_FULL : SLC1_INVALID_INPUT, store_rebuild(&writer, &records));
-        if (fits) {
-            same(SLC1_DONE, store_update(&writer, &records));
-            same(SLC1_DONE, contents_answer("other slots", &other));
-        } else
-            holds(is_contents("other slots", &before));
-        store_close_writer(&writer);
-        if (*slots == 512)
-            break;
-    }
-    free(before.bytes);
-    free(records.bytes);
-}
-
 /* While an update is written these signals wait, and no others; none while it is tried on a copy. */
 static void see_mask(size_t done, size_t all)
 {
@@ -347,8 +291,7 @@ int main(int count, char **words)
 {
     static void (*const TESTS[])(void) = {texts, files_of_other_kinds, options_out_of_range, creating,
                                           records_that_are_refused, update_after_a_rebuild, lengths, another_file_of_the_name,
-                                          hard_links, other_files_are_not_replaced, slots_of_a_file, rebuilds_of_other_slots,
-                                          signals_within, signals};
+                                          hard_links, other_files_are_not_replaced, signals_within, signals};
 
     if (count != 2)
         return 64;
