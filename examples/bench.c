@@ -437,16 +437,17 @@ static int create(char **words)
     return SLC1_DONE;
 }
 
-/* A line for each hundredth, and none where it would have to wait, or where nobody reads: the cache is not whole meanwhile. */
+/* A line for each hundredth, and none where it would have to wait, or where nobody reads: the cache is not whole meanwhile.
+ * On a terminal the next one, or a complaint, is written over it. */
 static void show_progress(size_t done, size_t all)
 {
     static size_t shown;
-    bool terminal = isatty(STDERR_FILENO);
+    bool stays = done == all || !isatty(STDERR_FILENO);
     struct pollfd err = {STDERR_FILENO, POLLOUT, 0};
     size_t hundredths = done * 100 / all;
 
     if (all > 2 * SLC1_BATCH_LIMIT && hundredths > shown && poll(&err, 1, 0) == 1 && err.revents == POLLOUT)
-        fprintf(stderr, "%s%zu %% done%s", terminal ? "\r" : "", hundredths, terminal && done < all ? "" : "\n");
+        fprintf(stderr, "%zu %% done%s", hundredths, stays ? "\n" : "\r");
     shown = hundredths;
 }
 
