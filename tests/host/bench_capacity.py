@@ -52,8 +52,8 @@ def wrong_capacities(bench):
 
 
 def the_largest(bench):
-    """A cache of as many slots as there can be. The second program would take minutes for its buckets, and the sanitized build
-    comes upon nothing in it that smaller caches have not."""
+    """A cache of as many slots as there can be. The second program would take minutes for its buckets; the plain build alone
+    takes seconds."""
     if bench.step > 1:
         return
     same("create", bench.silent("create", "--capacity", str(LIMIT), "largest"), f"largest created, {LIMIT} slots\n")
@@ -84,8 +84,7 @@ def read_and_dropped(bench, certificates):
 
 def every_command(bench):
     """Caches of other numbers of slots than 512, full or not, loaded by one batch or several; a rebuild keeps the number."""
-    for slots, certificates in ((1, NEW[:1]), (2, NEW[:2]), (300, NEW), (513, NEW), (len(MANY_NEW), MANY_NEW),
-                                (5000, MANY_NEW)):
+    for slots, certificates in ((1, NEW[:1]), (2, NEW[:2]), (300, NEW), (513, NEW), (len(MANY_NEW), MANY_NEW)):
         some, all_of_them = write_certificates("some.csv", certificates), counted(len(certificates), "certificate")
         same("create", bench.silent("create", "--capacity", str(slots), "cache"), f"cache created, {counted(slots, 'slot')}\n")
         holds("what create makes", read("cache") == fresh(of(slots)))
@@ -134,7 +133,9 @@ def grown(bench):
 
 
 def more_than_any_cache(bench):
-    """One serial more than a cache can have slots: no number of slots is advised."""
+    """One serial more than a cache can have slots: no number of slots is advised. For the plain build, as the largest is."""
+    if bench.step > 1:
+        return
     write("cache", fresh(of(1)))
     with open(path_of("more.csv"), "w") as file:
         file.writelines(f"CM{number:010},1,1\n" for number in range(LIMIT + 1))
