@@ -4,6 +4,7 @@ import os
 import pty
 import re
 import socket
+from contextlib import suppress
 from functools import partial
 
 import second
@@ -234,12 +235,15 @@ REBUILT_SO_FAR = [f"{done} % done" for done in (48, 97, 100)]
 
 
 def on_a_terminal(bench, *words):
-    """A run whose standard error is a terminal, and what that shows."""
+    """A run whose standard error is a terminal, and what that shows: it may come in parts, and ends in an error."""
     ours, theirs = pty.openpty()
-    os.set_blocking(ours, False)
     ran = bench.ended(bench.start(*words, err=theirs))
-    with open(ours, "rb", buffering=0) as terminal, open(theirs):
-        return ran._replace(err=(terminal.read(65536) or b"").decode())
+    os.close(theirs)
+    parts = []
+    with open(ours, "rb", buffering=0) as terminal, suppress(OSError):
+        while part := terminal.read(65536):
+            parts.append(part)
+    return ran._replace(err=b"".join(parts).decode())
 
 
 def progress(bench):
