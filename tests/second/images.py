@@ -138,6 +138,6 @@ class Images:
         o = o._replace(role=self.random.randrange(3))
         if self.random.random() < 0.15:
             name = self.random.choice(o._fields)
-            value = self.random.choice((0, 1, 2, 3, 64, 65, 256, 257, 1048576, 1048577, 2**32, 2**63, 2**64 - 1))
+            value = self.random.choice((0, 1, 2, 3, 64, 65, 256, 257, second.CAPACITY_LIMIT, second.CAPACITY_LIMIT + 1, 2**32, 2**63, 2**64 - 1))
             o = o._replace(**{name: value})
         return o

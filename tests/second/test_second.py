@@ -415,7 +415,7 @@ class Readings(Case):
         set_meta(self.image, BASE, 0, 2)
         self.assert_refused(1, commit, self.image, BASE, b"")
 
-    def test_reading_10_over_64_records_after_role_and_generation(self):
+    def test_reading_10_too_many_records_after_role_and_generation(self):
         over = delete(BASE, b"abc") * 1025
         self.assertEqual(commit(self.image, BASE, over[32:]), 0)
         self.assert_refused(7, commit, self.image, BASE, over)
