@@ -46,6 +46,7 @@ outcomes =
       comes-before = follows-one (λ κ a x e p. p);
       all-zero = follows-one (λ κ a x e p. p);
       copy-to = follows-one (λ κ a x e p. p);
+      write-over = follows-one (λ κ a x e p. p);
       clear = follows-one (λ κ a x e p. p);
       wide = follows-one (λ κ a x e p. p .0);
       u32-at = follows-one (λ κ a x e p. p);

@@ -9,6 +9,7 @@ use Rattle.numbers.proofs.parts.same_bytes.Reads as same-bytes-reads
 use Rattle.numbers.proofs.parts.comes_before.Reads as comes-before-reads
 use Rattle.numbers.proofs.parts.all_zero.Reads as all-zero-reads
 use Rattle.numbers.proofs.parts.copy_to.Reads as copy-to-reads
+use Rattle.numbers.proofs.parts.write_over.Reads as write-over-reads
 use Rattle.numbers.proofs.parts.clear.Reads as clear-reads
 use Rattle.numbers.proofs.words.wide.Reads as wide-reads
 use Rattle.numbers.proofs.words.u32_at.Reads as u32-at-reads
@@ -85,6 +86,7 @@ pub record Outcomes : Type 2 where
   pub comes-before : One comes-before-reads.Post (λ κ x e. x)
   pub all-zero : One all-zero-reads.Post (λ κ x e. x)
   pub copy-to : One copy-to-reads.Post (λ κ x e. now (arg1 e))
+  pub write-over : One write-over-reads.Post (λ κ x e. now (arg1 e))
   pub clear : One clear-reads.Post (λ κ x e. now (arg1 e))
   -- numbers, words
   pub wide : One wide-reads.Post (λ κ x e. x)

@@ -2,19 +2,12 @@
 -- Assumes nothing.
 use Prim.Native.Nat.{ℕ, _≤_, _<_}
 use mathlib.Core.Path.{_≡_, refl}
-use mathlib.Core.List.{List, append-nil}
-use native.Mathlib.Nat.{zero-add}
+use mathlib.Core.List.{List}
 use native.Mathlib.Omega.{arith}
-use lib.ListN.{length, drop-of-length-le}
-use Rattle.numbers.specs.Bytes.{put}
+use lib.ListN.{length}
 use Rattle.numbers.proofs.Put.{length-part}
 use Rattle.header.specs.Fields.{fieldOf, bytesIn}
 use Rattle.header.proofs.Table.{inside}
-
--- as many bytes as there are, put at the start, are all there is
-pub put-all : (s bs : List ℕ) → length bs ≡ length s → put s 0 bs ≡ bs
-unfolding put
-put-all s bs e = rw (zero-add, drop-of-length-le s {i = length bs} (omega arith)) (append-nil bs)
 
 -- a field has as many bytes as its width
 pub bytes-length : (image : List ℕ) (name : ℕ) → 256 ≤ length image → name < 23 → length (bytesIn image name) ≡ fieldOf name .width

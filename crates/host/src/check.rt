@@ -4,10 +4,10 @@ ghost use Rattle.host.specs.Options.{optionsOf};
 ghost use Rattle.host.specs.Results.{Reports, checkReport};
 ghost use Rattle.image.specs.Check.{checkOf};
 use crate::results::FULL_CHECK_RESULTS;
-use crate::results::write_over;
 use header::answer::TOO_SHORT;
 use header::options::Options;
 use image::check::full_check;
+use numbers::parts::write_over;
 
 // 0 where every sentence of the full check holds, else the number that says why not.
 #[no_mangle]

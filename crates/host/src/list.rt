@@ -5,11 +5,11 @@ ghost use Rattle.host.specs.Results.{ReportsListing, listingReport};
 ghost use Rattle.listing.specs.Match.{matchOf};
 ghost use Rattle.listing.specs.Scan.{scanOf};
 use crate::results::LISTING_RESULTS;
-use crate::results::write_over;
 use header::answer::TOO_SHORT;
 use header::options::Options;
 use listing::matching::match_bits;
 use listing::scan::scan;
+use numbers::parts::write_over;
 
 // Scan. 0, or the number that refuses the call.
 #[no_mangle]

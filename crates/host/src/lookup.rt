@@ -5,10 +5,10 @@ ghost use Rattle.host.specs.Results.{Reports, lookupReport};
 ghost use Rattle.image.specs.Lookup.{lookupOf};
 use crate::results::LOOKUP_RESULTS;
 use crate::results::word_of;
-use crate::results::write_over;
 use header::answer::TOO_SHORT;
 use header::options::Options;
 use image::lookup::look_up;
+use numbers::parts::write_over;
 
 // 0 found, 9 not present, or the number that refuses the call.
 #[no_mangle]

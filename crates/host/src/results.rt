@@ -1,8 +1,5 @@
 // All numbers of a call, written to a lent list.
 ghost use mathlib.Core.Path.{_≡_};
-ghost use Prim.Native.Nat.{_≤_};
-ghost use lib.ListN.{length};
-ghost use Rattle.numbers.specs.Bytes.{put};
 ghost use Rattle.host.specs.Results.{wordOf};
 
 // How many entries each call writes.
@@ -20,17 +17,5 @@ pub fn word_of(x: i64) -> u64
         18446744073709551615 - ((-1 - x) as u64)
     } else {
         x as u64
-    }
-}
-
-// Writes numbers over the start of a list. Entries past them stay.
-pub fn write_over(results: &mut [u64], numbers: &[u64])
-    requires { ⌜ length (now numbers) ≤ length (now results) ⌝ }
-    ensures { λ r. ⌜ now (results .exit) ≡ put (now (results .entry)) 0 (now (numbers .entry)) ⌝ }
-{
-    let mut i = 0;
-    while i < numbers.len() {
-        results[i] = numbers[i];
-        i += 1;
     }
 }

@@ -3,10 +3,10 @@
 use Prim.Native.Nat.{ℕ, suc, _+_, _-_, _≤_, _<_}
 use mathlib.Core.Path.{_≡_, refl, sym, ap, _∙_}
 use mathlib.Core.List.{List, [], _∷_, _++_, append-assoc, append-nil}
-use native.Mathlib.Nat.{add-zero, add-assoc}
+use native.Mathlib.Nat.{add-zero, zero-add, add-assoc}
 use native.Mathlib.Numerals.{add-one}
 use native.Mathlib.Omega.{arith}
-use lib.ListN.{length, getD, set, take, drop, length-append, length-drop, take-append-drop, replicate, length-replicate, replicate-append-replicate}
+use lib.ListN.{length, getD, set, take, drop, length-append, length-drop, drop-of-length-le, take-append-drop, replicate, length-replicate, replicate-append-replicate}
 use lib.Seq.{drop-cons, length-take-le, take-suc, take-add, drop-drop, take-at, take-append-le, drop-append-le, drop-append-add, sets, sets-eq}
 use Rattle.numbers.specs.Bytes.{part, put}
 
@@ -41,6 +41,11 @@ range-part xs at end n e =
 pub put-none : (s : List ℕ) (at : ℕ) → put s at [] ≡ s
 unfolding put
 put-none s at = rw (add-zero, append-nil) (take-append-drop at s)
+
+-- as many as there are, put at the start, are all there is
+pub put-all : (s bs : List ℕ) → length bs ≡ length s → put s 0 bs ≡ bs
+unfolding put
+put-all s bs e = rw (zero-add, drop-of-length-le s {i = length bs} (omega arith)) (append-nil bs)
 
 -- stores one after the other are a put
 pub put-sets : (s : List ℕ) (at : ℕ) (bs : List ℕ) → at + length bs ≤ length s → sets s at bs ≡ put s at bs

@@ -99,6 +99,18 @@ pub fn copy_to(dst: &mut [u8], at: usize, src: &[u8])
     }
 }
 
+// Writes words over the start of a list. What stands behind them stays.
+pub fn write_over(to: &mut [u64], from: &[u64])
+    requires { ⌜ length (now from) ≤ length (now to) ⌝ }
+    ensures { λ r. ⌜ now (to .exit) ≡ put (now (to .entry)) 0 (now (from .entry)) ⌝ }
+{
+    let mut k = 0;
+    while k < from.len() {
+        to[k] = from[k];
+        k += 1;
+    }
+}
+
 // Puts n zero bytes at an offset.
 pub fn clear(dst: &mut [u8], at: usize, n: usize)
     requires { ⌜ at + n ≤ length (now dst) ⌝ }

@@ -8,7 +8,8 @@ use lib.ListN.{replicate}
 use Rattle.header.specs.Fields as F
 use Rattle.header.specs.Fields.{bytesIn}
 use Rattle.header.specs.Open.{userFields}
-use Rattle.header.proofs.FieldBytes.{put-all, bytes-length}
+use Rattle.numbers.proofs.Put.{put-all}
+use Rattle.header.proofs.FieldBytes.{bytes-length}
 use borrow.Author.Needs.{needs}
 use Rattle.header.proofs.open.user_fields.Statement.{statement}
 use Rattle.header.proofs.open.user_fields.Tie as tie
