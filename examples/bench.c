@@ -20,6 +20,9 @@
 #include "slc1.h"
 #include "store.h"
 
+#define TEXT(number) TEXT_AS_GIVEN(number)
+#define TEXT_AS_GIVEN(number) #number
+
 static const char USAGE[] =
     "usage: bench create FILE                       make an empty cache\n"
     "       bench load FILE CERTIFICATES.csv        put every certificate into it\n"
@@ -35,7 +38,8 @@ static const char USAGE[] =
     "\n"
     "Right after load or rebuild, --older takes certificates that are older than the cache's or than an earlier line's, or\n"
     "have another gain for the cache's revision, and --progress shows how far it is, as on a terminal.\n"
-    "Right after create or rebuild, --capacity N makes a cache of N slots, 1 to 1048576, one for each serial; without it\n"
+    "Right after create or rebuild, --capacity N makes a cache of N slots, 1 to " TEXT(SLC1_CAPACITY_LIMIT)
+    ", one for each serial; without it\n"
     "create makes one of 512, and rebuild one of as many as there were.\n"
     "\n"
     "CERTIFICATES.csv has lines serial,revision,gain, each with a line feed: a serial of 12 characters; a whole number; and\n"

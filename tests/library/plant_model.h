@@ -1,5 +1,5 @@
 /* A plain model of an image: what each key number has, and beside it the slots and buckets that docs/format.md gives them. It
- * shares nothing with the library: the map is an array over key numbers, and hashes and probes are its own. */
+ * shares nothing with the library but the header's CRC: the map is an array over key numbers, hashes and probes are its own. */
 #ifndef PLANT_MODEL_H
 #define PLANT_MODEL_H
 

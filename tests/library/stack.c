@@ -18,68 +18,73 @@ static uint32_t numbers[SLC1_BATCH_LIMIT];
 
 #define LENT image, total, SLC1_OPTIONS(&options)
 
-static void *nothing(void *unused) { return unused; }
-
-static void *commit(void *unused)
+static void commit(void)
 {
     same(SLC1_DONE, slc1_commit(LENT, batch, sizeof batch));
-    return unused;
 }
 
-static void *create(void *unused)
+static void create(void)
 {
     same(SLC1_DONE, slc1_create(LENT));
-    return unused;
 }
 
-static void *begin(void *unused)
+static void begin(void)
 {
     same(SLC1_DONE, slc1_begin(LENT));
-    return unused;
 }
 
-static void *lookup(void *unused)
+static void lookup(void)
 {
     same(SLC1_DONE, slc1_lookup(LENT, batch + 8, KEY));
-    return unused;
 }
 
-static void *match(void *unused)
+static void match(void)
 {
     same(1, slc1_match_total(LENT, 0, 0, batch + 8, KEY, 0, SLC1_BATCH_LIMIT, numbers, SLC1_BATCH_LIMIT));
-    return unused;
 }
 
-static void *full_check(void *unused)
+static void full_check(void)
 {
     same(SLC1_DONE, slc1_full_check(LENT));
+}
+
+static void (*call)(void);
+static uintptr_t top; /* where the stack stood when the call was made */
+
+static void *made(void *unused)
+{
+    uint8_t here;
+
+    top = (uintptr_t)&here;
+    call();
     return unused;
 }
 
-static size_t used(void *(*call)(void *))
+/* The bytes from there down to the lowest that was touched. */
+static size_t used(void)
 {
     uint8_t *stack = aligned_alloc(1 << 16, STACK);
     pthread_attr_t attributes;
     pthread_t thread;
-    size_t left = 0;
+    size_t bytes, left = 0;
 
     holds(stack != NULL && pthread_attr_init(&attributes) == 0);
     memset(stack, UNTOUCHED, STACK);
     same(0, pthread_attr_setstack(&attributes, stack, STACK));
-    same(0, pthread_create(&thread, &attributes, call, NULL));
+    same(0, pthread_create(&thread, &attributes, made, NULL));
     same(0, pthread_join(thread, NULL));
     while (stack[left] == UNTOUCHED)
         left++;
+    bytes = top - (uintptr_t)(stack + left);
     free(stack);
-    return STACK - left;
+    return bytes;
 }
 
 int main(void)
 {
-    const struct { const char *name; void *(*call)(void *); size_t most; } calls[] = {
+    const struct { const char *name; void (*call)(void); size_t most; } calls[] = {
         {"create", create, OTHERS_MOST}, {"begin", begin, OTHERS_MOST}, {"commit", commit, COMMIT_MOST},
         {"lookup", lookup, OTHERS_MOST}, {"match", match, OTHERS_MOST}, {"full check", full_check, OTHERS_MOST}};
-    size_t empty = used(nothing);
     uint32_t mixed = 1;
 
     total = (size_t)slc1_total_size(SLC1_OPTIONS(&options));
@@ -91,8 +96,10 @@ int main(void)
             batch[at + 8 + byte] = (uint8_t)((mixed = mixed * 1103515245 + 12345) >> 16);
     }
     for (size_t i = 0; i < sizeof calls / sizeof *calls; i++) {
-        size_t bytes = used(calls[i].call) - empty;
+        size_t bytes;
 
+        call = calls[i].call;
+        bytes = used();
         printf("%s uses %zu bytes of stack\n", calls[i].name, bytes);
         holds(bytes <= calls[i].most);
     }
