@@ -57,20 +57,20 @@ module _ (o : Options) (image : List ℕ) (z : headerTest o image ≡ 0) where
   scan-list skip limit numbers = rw z refl
 
   -- a listing against one that leaves none out
-  listed-piece : (wanted : List ℕ → Bool) (most : ℕ) (room : List ℕ) → Roomy o most room → (skip limit : ℕ) (numbers : List ℕ)
+  listed-piece : (wanted : List ℕ → Bool) (most : ℕ) (room : List ℕ) → Roomy image most room → (skip limit : ℕ) (numbers : List ℕ)
       → Piece (list (matches (shapeOf image) image wanted) 0 most room) skip limit numbers
       (list (matches (shapeOf image) image wanted) skip limit numbers)
   listed-piece wanted most room roomy =
       let fits = few o image z wanted in
       pieces (matches (shapeOf image) image wanted) most room (omega (arith, fits, roomy .high)) (omega (arith, fits, roomy .long))
 
-  scanned-piece : (most : ℕ) (room : List ℕ) → Roomy o most room → (skip limit : ℕ) (numbers : List ℕ)
+  scanned-piece : (most : ℕ) (room : List ℕ) → Roomy image most room → (skip limit : ℕ) (numbers : List ℕ)
       → Piece (scanOf o image 0 most room) skip limit numbers (scanOf o image skip limit numbers)
   scanned-piece most room roomy skip limit numbers =
       rw (scan-list 0 most room, scan-list skip limit numbers) (listed-piece (λ key. true) most room roomy skip limit numbers)
 
   matched-piece : (offset bits : ℕ) (pattern : List ℕ) → RightPattern o offset bits pattern
-      → (most : ℕ) (room : List ℕ) → Roomy o most room → (skip limit : ℕ) (numbers : List ℕ)
+      → (most : ℕ) (room : List ℕ) → Roomy image most room → (skip limit : ℕ) (numbers : List ℕ)
       → Piece (matchOf o image offset bits pattern 0 most room) skip limit numbers
       (matchOf o image offset bits pattern skip limit numbers)
   matched-piece offset bits pattern right most room roomy skip limit numbers =
@@ -112,7 +112,7 @@ module _ {o : Options} {image : List ℕ} {m : Map} {fields : UserFields} (h : H
         λ i. record { revision = l .1 i; index = l .2 i } in
         (l .0, l .1, l .2, rw same at (belongs o′ image key (l .0)))
 
-    listed : (wanted : List ℕ → Bool) (limit : ℕ) (numbers : List ℕ) → Roomy o′ limit numbers
+    listed : (wanted : List ℕ → Bool) (limit : ℕ) (numbers : List ℕ) → Roomy image limit numbers
         → Lists o′ image m wanted (list (matches (shapeOf image) image wanted) 0 limit numbers)
     listed wanted limit numbers roomy = rw (sym (h .map)) (lists-map o′ image z wanted (whole .sound) limit numbers roomy)
 

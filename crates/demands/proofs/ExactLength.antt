@@ -1,7 +1,7 @@
 -- Images of exact length: what passes has the total's, and any other is refused.
 -- Assumes nothing.
 use Prim.Native.Nat.{ℕ, zero, suc, _+_, _*_, _≤_, _<_}
-use mathlib.Core.Bool.{Bool, true, false, not, _&&_, _||_}
+use mathlib.Core.Bool.{Bool, true, or-true}
 use mathlib.Core.Path.{_≡_, refl, sym, ap, _∙_, fun-ext}
 use mathlib.Core.List.{List, [], _∷_, _++_, append-assoc}
 use native.Mathlib.Omega.{arith}
@@ -17,12 +17,12 @@ use Rattle.header.specs.Answer.{needs-rebuild}
 use Rattle.header.specs.Fields as F
 use Rattle.header.specs.Fields.{fieldOf, bytesIn, value}
 use Rattle.header.specs.FirstOf.{firstOf}
-use Rattle.header.specs.HeaderTest.{test1, test2, test3, test4, test5, test6, test7, test8, test9, test10, test11, test12, headerTests, headerTest, layoutOf, shapeOf, afterTest}
+use Rattle.header.specs.HeaderTest.{test1, test2, test3, test4, test5, test6, test7, test8, test9, imageTotal, test10, test11, test12, headerTests, headerTest, shapeOf, afterTest}
 use Rattle.header.specs.Open.{openOf}
-use Rattle.header.specs.Sizes.{bucketsOffset, totalSize}
+use Rattle.header.specs.Sizes.{totalSize}
 use Rattle.header.proofs.Firsts.{first-none, first-stops}
-use Rattle.header.proofs.Fit.{judged-fit, fit-shaped}
-use Rattle.header.proofs.PassedTests.{agreed, ruled, length-passed, role-passed}
+use Rattle.header.proofs.Fit.{judged-fit, fit-total}
+use Rattle.header.proofs.PassedTests.{length-passed, role-passed}
 use Rattle.header.proofs.Stages.{staged, passes}
 use Rattle.image.specs.declared.lookup.Lookup.{Lookup}
 use Rattle.image.specs.Lookup.{nothing, lookupIn, lookupOf, indexPart}
@@ -48,24 +48,8 @@ use Rattle.demands.proofs.Created.{create-allowed, create-left, fresh-i
 use Rattle.demands.proofs.Demand1.{demand1}
 use Rattle.demands.proofs.HistoryInvariant.{writer-header, held}
 
--- where tests 8 and 9 pass and the offset is right, the total that the header gives is that of the options
-ends : (o : Options) (image : List ℕ) → firstOf (test8 o image) ≡ 0 → firstOf (test9 o image) ≡ 0
-    → value image F.buckets-offset ≡ bucketsOffset (value image F.slot-capacity) (value image F.slot-size)
-    → value image F.buckets-offset + 16 * value image F.bucket-count ≡ totalSize o
-unfolding totalSize bucketsOffset
-ends o image eighth ninth offset =
-    let a = agreed o image eighth in rw (offset, ruled o image ninth, a .capacity, a .slot) refl
-
-exact : (o : Options) (image : List ℕ) → headerTest o image ≡ 0 → length image ≡ totalSize o
-unfolding shapeOf layoutOf
-exact o image z =
-    let p = passes o image z in
-    let laid = fit-shaped o image (shapeOf image) (judged-fit o image z) .laid in
-    laid .size ∙ ends o image (p .eighth) (p .ninth) (laid .offset)
-
--- the tests before the eighth
-abbrev seven : Options → List ℕ → List (Bool × ℕ)
-seven o image = test1 o ++ test2 image ++ test3 image ++ test4 o image ++ test5 image ++ test6 image ++ test7 image
+exact : (o : Options) (image : List ℕ) → headerTest o image ≡ 0 → length image ≡ imageTotal image
+exact o image z = fit-total o image (shapeOf image) (judged-fit o image z)
 
 -- the header test, with the tests from the tenth on apart
 apart : (o : Options) (image : List ℕ) → headerTest o image ≡ firstOf (nine o image ++ (test10 image ++ (test11 image ++ test12 o image)))
@@ -73,34 +57,14 @@ unfolding headerTest headerTests
 apart o image = simp append-assoc
 
 module _ (o : Options) (image : List ℕ) where
-  abbrev right : Bool
-  right = eqb (value image F.buckets-offset) (bucketsOffset (value image F.slot-capacity) (value image F.slot-size))
-
-  abbrev end : ℕ
-  end = value image F.buckets-offset + 16 * value image F.bucket-count
-
-  module _ (other : length image ≡ totalSize o → ⊥) where
-    -- the tenth test holds, where the two before it do not
-    tenth : firstOf (test8 o image) ≡ 0 → firstOf (test9 o image) ≡ 0 → firstOf (test10 image) ≡ needs-rebuild
+  module _ (other : length image ≡ imageTotal image → ⊥) where
+    tenth : firstOf (test10 image ++ (test11 image ++ test12 o image)) ≡ needs-rebuild
     unfolding test10 firstOf
-    tenth eighth ninth = go (eqb (value image F.slots-offset) 256) right refl
-      where
-        go : (first second : Bool) → right ≡ second
-            → firstOf ((not (first && second) || not (eqb (length image) end), needs-rebuild) ∷ []) ≡ needs-rebuild
-        go true true e = rw (ne-eqb (length image) end (λ l. other (l ∙ ends o image eighth ninth (eqb-true _ _ e)))) refl
-        go true false e = refl
-        go false second e = refl
-
-    after-nine : firstOf (nine o image) ≡ 0 → firstOf (test10 image ++ (test11 image ++ test12 o image)) ≡ needs-rebuild
-    unfolding test1 test2 test3 test4 test5 test6 test7 test8 test9
-    after-nine none =
-        let last = first-none (seven o image ++ test8 o image) (test9 o image) tt none in
-        let eighth = first-none (seven o image) (test8 o image) tt (last .0) .1 in
-        sym (first-stops (test10 image) (test11 image ++ test12 o image) (sym (tenth eighth (last .1))) (λ e. omega arith))
+    tenth = rw (ne-eqb (length image) (imageTotal image) other, or-true) refl
 
     header : headerTest o image ≡ number o image
     unfolding firstOf
-    header = apart o image ∙ tests.behind (nine o image) (test10 image ++ (test11 image ++ test12 o image)) ((true, needs-rebuild) ∷ []) after-nine
+    header = apart o image ∙ tests.behind (nine o image) (test10 image ++ (test11 image ++ test12 o image)) ((true, needs-rebuild) ∷ []) (λ none. tenth)
 
     some-number : number o image ≡ 0 → ⊥
     unfolding firstOf test1 test2 test3 test4 test5 test6 test7 test8 test9
@@ -110,11 +74,11 @@ module _ (o : Options) (image : List ℕ) where
     read : {A : Type 0} (go : A) (refuse : ℕ → A) → afterTest (headerTest o image) go refuse ≡ refuse (number o image)
     read go refuse = rw header (after-failed go refuse (number o image) some-number)
 
-  lookup : (key : List ℕ) → (length image ≡ totalSize o → ⊥) → lookupOf o image key ≡ nothing (number o image)
+  lookup : (key : List ℕ) → (length image ≡ imageTotal image → ⊥) → lookupOf o image key ≡ nothing (number o image)
   unfolding lookupOf
   lookup key other = read other (lookupIn (shapeOf image) image key) nothing
 
-  index : (key : List ℕ) → (length image ≡ totalSize o → ⊥) → indexPart o image key ≡ []
+  index : (key : List ℕ) → (length image ≡ imageTotal image → ⊥) → indexPart o image key ≡ []
   index key other =
       demand1 .lookup-empty o image key (λ z. some-number other (sym (ap (λ (l : Lookup). l .answer) (lookup key other)) ∙ z)) .2
 
@@ -151,13 +115,17 @@ module _ (o : Options) (image more : List ℕ) (long : 256 ≤ length image) whe
   unfolding test3 test4 test5 test6 test7 test8 test9 value
   same-nine = rw (same-second, same-fields, same-crc) refl
 
+  same-total : imageTotal (image ++ more) ≡ imageTotal image
+  unfolding imageTotal value
+  same-total = rw same-fields refl
+
 -- where the header test passes, none of the tests before the tenth holds
 none-of-nine : (o : Options) (image : List ℕ) → headerTest o image ≡ 0 → firstOf (nine o image) ≡ 0
 unfolding test1 test2 test3 test4 test5 test6 test7 test8 test9
 none-of-nine o image z = first-none (nine o image) _ tt (sym (apart o image) ∙ z) .0
 
 -- and where none of them holds, another length is 1
-is-one : (o : Options) (image : List ℕ) → (length image ≡ totalSize o → ⊥) → firstOf (nine o image) ≡ 0 → headerTest o image ≡ needs-rebuild
+is-one : (o : Options) (image : List ℕ) → (length image ≡ imageTotal image → ⊥) → firstOf (nine o image) ≡ 0 → headerTest o image ≡ needs-rebuild
 unfolding firstOf test1 test2 test3 test4 test5 test6 test7 test8 test9
 is-one o image other none = header o image other ∙ past (nine o image) ((true, needs-rebuild) ∷ []) tt none
 
@@ -165,11 +133,11 @@ behind : (o : Options) (image more : List ℕ) → headerTest o image ≡ 0 → 
 behind o image more z some =
     let size = exact o image z in
     let long = length-passed image (passes o image z .second) in
-    is-one o (image ++ more) (λ e. omega (arith, length-append image more))
+    is-one o (image ++ more) (λ e. omega (arith, length-append image more, same-total o image more long))
     (ap firstOf (same-nine o image more long) ∙ none-of-nine o image z)
 
 -- an image without its end: it may have lost a part of the header too
-module _ (o : Options) (image : List ℕ) (n : ℕ) (z : headerTest o image ≡ 0) (some : 1 ≤ n) (fewer : n < totalSize o) where
+module _ (o : Options) (image : List ℕ) (n : ℕ) (z : headerTest o image ≡ 0) (some : 1 ≤ n) (fewer : n < imageTotal image) where
   abbrev short : List ℕ
   short = take n image
 
@@ -190,8 +158,10 @@ module _ (o : Options) (image : List ℕ) (n : ℕ) (z : headerTest o image ≡ 
           ∙ past (test1 o) _ tt (passes o image z .first)
           ∙ sym (first-stops (test2 short) _ (second-holds l) (λ e. omega arith))
       go (no l) =
-          is-one o short (λ e. omega (arith, short-length))
-          (sym (ap firstOf (same-nine o short (drop n image) (omega (arith, short-length))))
+          let long : 256 ≤ length short = omega (arith, short-length) in
+          let whole = sym (same-total o short (drop n image) long) ∙ ap imageTotal (take-append-drop n image) in
+          is-one o short (λ e. omega (arith, short-length, whole))
+          (sym (ap firstOf (same-nine o short (drop n image) long))
           ∙ ap (λ (i : List ℕ). firstOf (nine o i)) (take-append-drop n image)
           ∙ none-of-nine o image z)
 

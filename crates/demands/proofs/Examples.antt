@@ -4,12 +4,12 @@ use mathlib.Core.Path.{refl}
 use Rattle.numbers.specs.Age.{ageOf}
 use Rattle.probing.specs.Counting.{sumTo, allTo}
 use Rattle.probing.specs.Overflow.{stretch, largest, overflow, lawful, homesIn, sumOfHomes}
-use Rattle.header.specs.Sizes.{align8, slotSize, powerFrom, bucketCount, bucketsOffset, totalSize}
+use Rattle.header.specs.Sizes.{align8, slotSize, powerFrom, bucketCount, bucketsOffset, total, totalSize}
 use Rattle.listing.specs.Match.{bitAt, agrees}
 use Rattle.demands.specs.Examples.{Examples}
 
 pub examples : Examples
-unfolding align8 slotSize powerFrom bucketCount bucketsOffset totalSize sumOfHomes lawful overflow largest stretch sumTo homesIn allTo bitAt agrees ageOf
+unfolding align8 slotSize powerFrom bucketCount bucketsOffset total totalSize sumOfHomes lawful overflow largest stretch sumTo homesIn allTo bitAt agrees ageOf
 examples =
     record {
       slot-10-5 = refl;

@@ -13,7 +13,9 @@ use borrow.Author.Tests.{eqb-true}
 use Rattle.probing.specs.Sound.{Sound}
 use Rattle.header.specs.declared.options.Options.{Options}
 use Rattle.header.specs.declared.shape.Shape.{Shape}
-use Rattle.header.specs.HeaderTest.{headerTest, shapeOf}
+use Rattle.header.specs.Fields as F
+use Rattle.header.specs.Fields.{value}
+use Rattle.header.specs.HeaderTest.{headerTest, layoutOf, shapeOf}
 use Rattle.header.proofs.Fit.{judged-fit, fit-shaped}
 use Rattle.image.specs.Table.{metaOf, keyOf, tableOf}
 use Rattle.listing.specs.Scan.{matches, list}
@@ -24,7 +26,7 @@ use Rattle.demands.specs.Listings.{Roomy, entry, Lists}
 use Rattle.demands.specs.Shows.{Shows}
 use Rattle.demands.proofs.Ascending.{passing-ascends, listed-once}
 use Rattle.demands.proofs.Pieces.{wholeList, whole-list, whole-entry}
-use Rattle.demands.proofs.Shown.{same-capacity, slot-shows}
+use Rattle.demands.proofs.Shown.{slot-shows}
 
 module _ (o : Options) (image : List ℕ) (z : headerTest o image ≡ 0) (wanted : List ℕ → Bool) where
   abbrev s : Shape
@@ -38,15 +40,14 @@ module _ (o : Options) (image : List ℕ) (z : headerTest o image ≡ 0) (wanted
   slots = matches s image wanted
 
   -- there is room for them where there is for every slot
-  pub few : length slots ≤ o .«slot_capacity»
-  unfolding matches
-  few =
-      omega (arith, passing-le picked (s .«slot_highwater»), fit-shaped o image s (judged-fit o image z) .highwater, same-capacity o image z)
+  pub few : length slots ≤ value image F.slot-capacity
+  unfolding matches shapeOf layoutOf
+  few = omega (arith, passing-le picked (s .«slot_highwater»), fit-shaped o image s (judged-fit o image z) .highwater)
 
   inside : (n : ℕ) → n < s .«slot_highwater» → n < s .layout .«slot_capacity»
   inside n h = omega (arith, fit-shaped o image s (judged-fit o image z) .highwater)
 
-  module _ (sound : Sound (tableOf s image)) (limit : ℕ) (numbers : List ℕ) (roomy : Roomy o limit numbers) where
+  module _ (sound : Sound (tableOf s image)) (limit : ℕ) (numbers : List ℕ) (roomy : Roomy image limit numbers) where
     long : length slots ≤ length numbers
     long = omega (arith, few, roomy .long)
 

@@ -7,7 +7,7 @@ use native.Mathlib.Omega.{arith}
 use borrow.Author.Tests.{lt-ltb}
 use Rattle.header.specs.declared.options.Options.{Options}
 use Rattle.header.specs.declared.shape.Shape.{Shape}
-use Rattle.header.specs.HeaderTest.{headerTest, shapeOf}
+use Rattle.header.specs.HeaderTest.{headerTest, layoutOf, shapeOf}
 use Rattle.header.specs.Shaped.{Shaped}
 use Rattle.header.proofs.Fit.{judged-fit, fit-shaped, fit-key-size, fit-index-size, fit-slot-capacity}
 use Rattle.header.proofs.Stages.{passes}
@@ -30,7 +30,7 @@ module _ (o : Options) (image : List ℕ) (z : headerTest o image ≡ 0) where
   same-index-size : s .layout .«index_size» ≡ o .«index_size»
   same-index-size = fit-index-size o image s (judged-fit o image z)
 
-  pub same-capacity : s .layout .«slot_capacity» ≡ o .«slot_capacity»
+  same-capacity : s .layout .«slot_capacity» ≡ o .«slot_capacity»
   same-capacity = fit-slot-capacity o image s (judged-fit o image z)
 
   module _ (n : ℕ) (inside : n < s .layout .«slot_capacity») where
@@ -51,10 +51,10 @@ module _ (o : Options) (image : List ℕ) (z : headerTest o image ≡ 0) where
 
     -- a slot shows its key and its entry
     pub slot-shows : Shows o image n (keyOf (s .layout) image n) (entryOf (s .layout) image n)
-    unfolding keyOf revisionOf indexOf
+    unfolding keyOf revisionOf indexOf shapeOf layoutOf
     slot-shows =
         record {
-          below = rw same-capacity at inside;
+          below = inside;
           key-bytes = rw (key-placed, ← same-key-size) refl;
           index-bytes = rw (index-placed, ← same-index-size) refl;
           revision-bytes = rw revision-placed refl;

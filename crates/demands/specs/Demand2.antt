@@ -42,10 +42,10 @@ pub record ReadsBack (o : Options) (image : List ℕ) (m : Map) (fields : UserFi
   -- any other key of the right length: 9
   pub lacks : (key : List ℕ) → length key ≡ o .«key_size» → m key ≡ none → lookupOf o image key .answer ≡ not-present
   -- a scan from the first lists the map, and a match those of its keys that agree with the pattern
-  pub scans : (limit : ℕ) (numbers : List ℕ) → Roomy o limit numbers
+  pub scans : (limit : ℕ) (numbers : List ℕ) → Roomy image limit numbers
       → Lists o image m (λ key. true) (scanOf o image 0 limit numbers)
   pub matches : (offset bits : ℕ) (pattern : List ℕ) → RightPattern o offset bits pattern → (limit : ℕ) (numbers : List ℕ)
-      → Roomy o limit numbers
+      → Roomy image limit numbers
       → Lists o image m (agrees offset (bitsCompared bits pattern) pattern) (matchOf o image offset bits pattern 0 limit numbers)
   -- "Open check ... with 0 it hands out the user fields"
   pub opens : openOf o image ≡ record { answer = done; fields = fields }
@@ -61,11 +61,11 @@ pub record Demand2 : Type 0 where
       → headerTest (withRole o role) image ≡ done → ReadsBack (withRole o role) image m fields
   -- with any skip, limit and list, on any image that passes the header test, scan and match give pieces of what they list so
   pub scan-pieces : (o : Options) (image : List ℕ) → headerTest o image ≡ done
-      → (most : ℕ) (list : List ℕ) → Roomy o most list → (skip limit : ℕ) (numbers : List ℕ)
+      → (most : ℕ) (list : List ℕ) → Roomy image most list → (skip limit : ℕ) (numbers : List ℕ)
       → Piece (scanOf o image 0 most list) skip limit numbers (scanOf o image skip limit numbers)
   pub match-pieces : (o : Options) (image : List ℕ) → headerTest o image ≡ done
       → (offset bits : ℕ) (pattern : List ℕ) → RightPattern o offset bits pattern
-      → (most : ℕ) (list : List ℕ) → Roomy o most list → (skip limit : ℕ) (numbers : List ℕ)
+      → (most : ℕ) (list : List ℕ) → Roomy image most list → (skip limit : ℕ) (numbers : List ℕ)
       → Piece (matchOf o image offset bits pattern 0 most list) skip limit numbers
       (matchOf o image offset bits pattern skip limit numbers)
   -- The header test passes for the writer and beside a writer, and for every role where the image is CLEAN, as a fresh one is.

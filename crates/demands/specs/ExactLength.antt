@@ -9,7 +9,7 @@ use Rattle.header.specs.declared.options.Options.{Options}
 use Rattle.header.specs.declared.open.UserFields.{UserFields}
 use Rattle.header.specs.Answer.{done, needs-rebuild}
 use Rattle.header.specs.FirstOf.{firstOf}
-use Rattle.header.specs.HeaderTest.{test1, test2, test3, test4, test5, test6, test7, test8, test9, headerTest}
+use Rattle.header.specs.HeaderTest.{test1, test2, test3, test4, test5, test6, test7, test8, test9, imageTotal, headerTest}
 use Rattle.header.specs.Open.{noFields, openOf}
 use Rattle.header.specs.Sizes.{totalSize}
 use Rattle.image.specs.Lookup.{nothing, lookupOf, indexPart}
@@ -38,7 +38,7 @@ number o image = firstOf (nine o image ++ (true, needs-rebuild) ∷ [])
 -- what a call gives on every image of another length than the total: its refusal, with that number
 abbrev pub OtherLength : {A : Type 0} → (Options → List ℕ → A) → (List ℕ → ℕ → A) → Type 0
 OtherLength call refusal =
-    (o : Options) (image : List ℕ) → (length image ≡ totalSize o → ⊥) → call o image ≡ refusal image (number o image)
+    (o : Options) (image : List ℕ) → (length image ≡ imageTotal image → ⊥) → call o image ≡ refusal image (number o image)
 
 -- "Any number but 0 leaves every lent byte alone"
 abbrev pub unchanged : List ℕ → ℕ → Written
@@ -46,7 +46,7 @@ unchanged image n = written n image
 
 pub record ExactLength : Type 0 where
   -- "From now on a length other than the total is 1.": what passes has the total's length, and any other is refused
-  pub exact : (o : Options) (image : List ℕ) → headerTest o image ≡ done → length image ≡ totalSize o
+  pub exact : (o : Options) (image : List ℕ) → headerTest o image ≡ done → length image ≡ imageTotal image
   pub header : OtherLength headerTest (λ image n. n)
   -- by every call that reads
   pub open-check : OtherLength openOf (λ image n. record { answer = n; fields = noFields })
@@ -70,7 +70,7 @@ pub record ExactLength : Type 0 where
   -- without its end
   pub behind : (o : Options) (image more : List ℕ) → headerTest o image ≡ done → 1 ≤ length more
       → headerTest o (image ++ more) ≡ needs-rebuild
-  pub cut : (o : Options) (image : List ℕ) (n : ℕ) → headerTest o image ≡ done → 1 ≤ n → n < totalSize o
+  pub cut : (o : Options) (image : List ℕ) (n : ℕ) → headerTest o image ≡ done → 1 ≤ n → n < imageTotal image
       → headerTest o (take n image) ≡ needs-rebuild
   -- "create still accepts a longer buffer": it makes of the total's bytes what it makes of them alone, and leaves the rest
   pub accepts : (o : Options) (buffer : List ℕ) → firstOf (test1 o) ≡ 0 → totalSize o ≤ length buffer
@@ -84,4 +84,4 @@ pub record ExactLength : Type 0 where
       → totalSize o < length buffer → headerTest o (createOf o buffer .image) ≡ needs-rebuild
   -- "Demand 2 then reads for images of exact length."
   pub histories : {o : Options} {image : List ℕ} {m : Map} {fields : UserFields} → History o image m fields
-      → length image ≡ totalSize o
+      → length image ≡ imageTotal image

@@ -9,6 +9,8 @@ use mathlib.Core.Option.{some}
 use lib.ListN.{length, getD}
 use Rattle.header.specs.declared.options.Options.{Options}
 use Rattle.header.specs.Answer.{done, too-short}
+use Rattle.header.specs.Fields as F
+use Rattle.header.specs.Fields.{value}
 use Rattle.listing.specs.Scan.{Outcome}
 use Rattle.maps.specs.Map.{Entry, Map}
 use Rattle.demands.specs.Shows.{Shows}
@@ -20,10 +22,10 @@ pub record RightPattern (o : Options) (offset bits : ℕ) (pattern : List ℕ) :
   pub bytes : (bits ≡ 0 → ⊥) → length pattern ≡ (bits + 7) / 8
   pub inside : offset + length pattern ≤ o .«key_size»
 
--- a limit and a lent list that are large enough for any image
-pub record Roomy (o : Options) (limit : ℕ) (numbers : List ℕ) : Type 0 where
-  pub high : o .«slot_capacity» ≤ limit
-  pub long : o .«slot_capacity» ≤ length numbers
+-- a limit and a lent list with room for every slot that the header says
+pub record Roomy (image : List ℕ) (limit : ℕ) (numbers : List ℕ) : Type 0 where
+  pub high : value image F.slot-capacity ≤ limit
+  pub long : value image F.slot-capacity ≤ length numbers
 
 -- the slot number in entry i
 abbrev pub entry : Outcome → ℕ → ℕ

@@ -7,13 +7,15 @@ use lib.ListN.{length}
 use Rattle.numbers.specs.Bytes.{part, word}
 use Rattle.numbers.specs.Signed.{signed}
 use Rattle.header.specs.declared.options.Options.{Options}
+use Rattle.header.specs.Fields as F
+use Rattle.header.specs.Fields.{value}
 use Rattle.host.specs.Places.{keyPlace, indexPlace}
 use Rattle.maps.specs.Map.{Entry}
 
 -- Slot n shows a key and an entry: the places are those that slc1_key_offset and slc1_index_offset give (`Exports`), and all
 -- that is read there lies inside the image.
 pub record Shows (o : Options) (image : List ℕ) (n : ℕ) (key : List ℕ) (entry : Entry) : Type 0 where
-  pub below : n < o .«slot_capacity»
+  pub below : n < value image F.slot-capacity
   -- the key_size bytes at the key's place
   pub key-bytes : part image (keyPlace o n) (o .«key_size») ≡ key
   -- the index_size bytes at the index's place, and the eight bytes before it as a signed number

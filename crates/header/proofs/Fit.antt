@@ -9,9 +9,9 @@ use lib.ListN.{length}
 use Rattle.header.specs.declared.options.Options.{Options}
 use Rattle.header.specs.declared.shape.Shape.{Shape}
 use Rattle.header.specs.declared.shape.Judged.the-variants.{Fit, Refused}
-use Rattle.header.specs.HeaderTest.{headerTest, layoutOf, shapeOf, verdict, judged}
+use Rattle.header.specs.HeaderTest.{imageTotal, headerTest, layoutOf, shapeOf, verdict, judged}
 use Rattle.header.specs.Shaped.{Shaped}
-use Rattle.header.specs.Sizes.{sizesAllowed, bucketCount}
+use Rattle.header.specs.Sizes.{sizesAllowed, bucketCount, total}
 use Rattle.header.proofs.Allowed.{allowed}
 use Rattle.header.proofs.PassedTests.{Agreed, agreed, ruled, allowed-passed, length-passed, extent-passed, counters-passed}
 use Rattle.header.proofs.SizeLaws.{bucket-count-room, bucket-count-limit}
@@ -84,8 +84,12 @@ module _ (o : Options) (image : List ℕ) (s : Shape) (fit : judged o image ≡ 
       let h = allowed o fit-allowed in
       rw fit-bucket-count (bucket-count-limit (o .«slot_capacity») (h .capacity-low) (h .capacity-high))
 
+  -- "a length other than the total" (CR 8): not this
+  pub fit-total : length image ≡ imageTotal image
+  fit-total = extent-passed image (passed .tenth) .1
+
   pub fit-shaped : Shaped s image
-  unfolding shapeOf layoutOf
+  unfolding shapeOf layoutOf imageTotal total
   fit-shaped =
       let h = allowed o fit-allowed in
       let room = bucket-count-room (o .«slot_capacity») (h .capacity-low) (h .capacity-high) in
@@ -94,7 +98,7 @@ module _ (o : Options) (image : List ℕ) (s : Shape) (fit : judged o image ≡ 
           keys = rw fit-key-size (h .key-high);
           slot = rw fit-shape (rw (says .key, says .index) (says .slot));
           offset = rw fit-shape (extent-passed image (passed .tenth) .0);
-          size = rw fit-shape (extent-passed image (passed .tenth) .1);
+          size = rw (fit-shape, extent-passed image (passed .tenth) .0) fit-total;
           room = rw (fit-slot-capacity, fit-bucket-count) room;
           small = fit-small;
         };

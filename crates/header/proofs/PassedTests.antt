@@ -12,7 +12,7 @@ use Rattle.header.specs.Fields as F
 use Rattle.header.specs.Fields.{value}
 use Rattle.header.specs.FirstOf.{firstOf}
 use Rattle.header.specs.Sizes.{sizesAllowed, slotSize, bucketCount, bucketsOffset}
-use Rattle.header.specs.HeaderTest.{powerOfTwo, test1, test2, test8, test9, test10, test11}
+use Rattle.header.specs.HeaderTest.{powerOfTwo, test1, test2, test8, test9, imageTotal, test10, test11}
 use Rattle.header.proofs.Firsts.{first-none, fails, neither}
 use Rattle.header.proofs.Allowed.{Allowed, offset-fits, buckets-fit}
 
@@ -44,12 +44,12 @@ length-passed image z =
 -- "An offset wrong, or a length other than the total" (CR 8): neither
 pub extent-passed : (image : List ℕ) → firstOf (test10 image) ≡ 0
     → (value image F.buckets-offset ≡ bucketsOffset (value image F.slot-capacity) (value image F.slot-size))
-    × (length image ≡ value image F.buckets-offset + 16 * value image F.bucket-count)
+    × (length image ≡ imageTotal image)
 unfolding test10
 extent-passed image z =
     let s : Bool = eqb (value image F.slots-offset) 256 in
     let b : Bool = eqb (value image F.buckets-offset) (bucketsOffset (value image F.slot-capacity) (value image F.slot-size)) in
-    let l : Bool = eqb (length image) (value image F.buckets-offset + 16 * value image F.bucket-count) in
+    let l : Bool = eqb (length image) (imageTotal image) in
     let p = neither (not (s && b)) (not l) (fails (not (s && b) || not l) 0 z) in
     (eqb-true _ _ (and-eq-true-iff s b .0 (not-false (s && b) (p .0)) .1), eqb-true _ _ (not-false l (p .1)))
 

@@ -1,6 +1,6 @@
 -- "The header test, in this order".
 -- Assumes nothing.
-use Prim.Native.Nat.{ℕ, zero, suc, _+_, _*_, _%_}
+use Prim.Native.Nat.{ℕ, zero, suc, _+_, _%_}
 use mathlib.Core.Bool.{Bool, not, _&&_, _||_}
 use mathlib.Core.List.{List, [], _∷_, _++_}
 use lib.Dec.{eqb, leb, ltb}
@@ -17,7 +17,7 @@ use Rattle.header.specs.Fields as F
 use Rattle.header.specs.Fields.{value, bytesIn, SLC1}
 use Rattle.header.specs.FirstOf.{firstOf}
 use Rattle.header.specs.State.{INVALIDATED, DIRTY, no-writer-known, another-writer, holds-the-lock}
-use Rattle.header.specs.Sizes.{sizesAllowed, slotSize, powerFrom, bucketCount, bucketsOffset}
+use Rattle.header.specs.Sizes.{sizesAllowed, slotSize, powerFrom, bucketCount, bucketsOffset, total}
 
 -- whether a number of 64 bits is a power of two
 unfoldable pub powerOfTwo : ℕ → Bool
@@ -81,13 +81,17 @@ test9 o image =
     ∷ (not (eqb (value image F.bucket-count) (bucketCount (o .«slot_capacity»))), incompatible)
     ∷ []
 
+-- the total of an image, by its own header
+unfoldable pub imageTotal : List ℕ → ℕ
+imageTotal image = total (value image F.slot-capacity) (value image F.slot-size) (value image F.bucket-count)
+
 -- "10. An offset wrong, or a length other than the total: 1." (CR 8)
 unfoldable pub test10 : List ℕ → List (Bool × ℕ)
 test10 image = (
   not
       (eqb (value image F.slots-offset) 256
       && eqb (value image F.buckets-offset) (bucketsOffset (value image F.slot-capacity) (value image F.slot-size)))
-      || not (eqb (length image) (value image F.buckets-offset + 16 * value image F.bucket-count)),
+      || not (eqb (length image) (imageTotal image)),
   needs-rebuild,
 )
     ∷ []

@@ -42,6 +42,10 @@ unfoldable pub bucketsOffset : ℕ → ℕ → ℕ
 bucketsOffset capacity slot = 256 + capacity * slot
 
 -- "Total size: 256 + capacity x slot_size + 16 x B."
+unfoldable pub total : ℕ → ℕ → ℕ → ℕ
+total capacity slot buckets = bucketsOffset capacity slot + 16 * buckets
+
+-- of an image that is made for these options
 unfoldable pub totalSize : Options → ℕ
 totalSize o =
-    256 + o .«slot_capacity» * slotSize (o .«key_size») (o .«index_size») + 16 * bucketCount (o .«slot_capacity»)
+    total (o .«slot_capacity») (slotSize (o .«key_size») (o .«index_size»)) (bucketCount (o .«slot_capacity»))

@@ -135,10 +135,11 @@ pub fn extent_test(image: &[u8], o: Options) -> u32
     let buckets = read(image, fields::BUCKETS_OFFSET);
     let capacity = read(image, fields::SLOT_CAPACITY);
     let slot = read(image, fields::SLOT_SIZE);
-    if !((slots == 256) & (buckets == buckets_offset(capacity, slot))) {
+    let offset = buckets_offset(capacity, slot);
+    if !((slots == 256) & (buckets == offset)) {
         return NEEDS_REBUILD;
     }
-    let total = buckets + 16 * read(image, fields::BUCKET_COUNT);
+    let total = offset + 16 * read(image, fields::BUCKET_COUNT);
     refuse(!((image.len() as u64) == total), NEEDS_REBUILD)
 }
 

@@ -12,8 +12,8 @@ use Rattle.probing.specs.Change.{placeFrom, place}
 use Rattle.header.specs.Fields.{bytesIn, value}
 use Rattle.header.specs.FirstOf.{firstOf}
 use Rattle.header.specs.Counters.{withCounters, withSlots}
-use Rattle.header.specs.Sizes.{sizesAllowed, align8, slotSize, powerFrom, bucketCount, bucketsOffset, totalSize}
-use Rattle.header.specs.HeaderTest.{powerOfTwo, test1, test2, test3, test4, test5, test6, test7, test8, test9, test10, test11, test12, headerTests, headerTest, layoutOf, shapeOf}
+use Rattle.header.specs.Sizes.{sizesAllowed, align8, slotSize, powerFrom, bucketCount, bucketsOffset, total, totalSize}
+use Rattle.header.specs.HeaderTest.{powerOfTwo, test1, test2, test3, test4, test5, test6, test7, test8, test9, imageTotal, test10, test11, test12, headerTests, headerTest, layoutOf, shapeOf}
 use Rattle.image.specs.Table as T
 use Rattle.image.specs.Table.{slotAt, bucketAt, metaOf, keyOf, bucketFrom, bucketOf, tableOf}
 use Rattle.image.specs.Lookup.{probeOf, isLive, lookupIn, lookupOf}
@@ -33,7 +33,7 @@ use Rattle.pins.proofs.MostRecords.{most-records-pass}
 
 -- all that is computed with
 computed : Unit {0}
-unfolding part word bytesOf put same allZero crcBit crcBits crcFrom crc32c headerCrc fnvFrom fnv1a64 sumTo countTo allTo liveCount fullCount tombstoneCount examine probeFrom probe bucketsRight metasRight eachFound countsEqual checks placeFrom place bytesIn value firstOf sizesAllowed align8 slotSize powerFrom bucketCount bucketsOffset totalSize powerOfTwo test1 test2 test3 test4 test5 test6 test7 test8 test9 test10 test11 test12 headerTests headerTest layoutOf shapeOf slotAt T.keyAt bucketAt metaOf keyOf bucketFrom bucketOf tableOf probeOf isLive passes withField withFields sealed createTests freshFields fresh createOf writingTests cleanTest generationTest inState beginOf checkpointOf published userTests removed indexed appended counted recordCount recordAt metaIn keyIn keyPadding revisionAndIndex indexPadding malformed someMalformed batchWrong recordKey decides isNew newCount rank firstTo newAt fallsBehind soundTests roomTests furtherTests commitTests acted actedTo afterLive withCounters withSlots afterNew tidied recounted settled committed commitOf invalidateTests invalidateOf withUserData setUserFieldsOf rebuiltTo rebuilt neverFall below lookupIn lookupOf
+unfolding part word bytesOf put same allZero crcBit crcBits crcFrom crc32c headerCrc fnvFrom fnv1a64 sumTo countTo allTo liveCount fullCount tombstoneCount examine probeFrom probe bucketsRight metasRight eachFound countsEqual checks placeFrom place bytesIn value firstOf sizesAllowed align8 slotSize powerFrom bucketCount bucketsOffset total totalSize powerOfTwo test1 test2 test3 test4 test5 test6 test7 test8 test9 imageTotal test10 test11 test12 headerTests headerTest layoutOf shapeOf slotAt T.keyAt bucketAt metaOf keyOf bucketFrom bucketOf tableOf probeOf isLive passes withField withFields sealed createTests freshFields fresh createOf writingTests cleanTest generationTest inState beginOf checkpointOf published userTests removed indexed appended counted recordCount recordAt metaIn keyIn keyPadding revisionAndIndex indexPadding malformed someMalformed batchWrong recordKey decides isNew newCount rank firstTo newAt fallsBehind soundTests roomTests furtherTests commitTests acted actedTo afterLive withCounters withSlots afterNew tidied recounted settled committed commitOf invalidateTests invalidateOf withUserData setUserFieldsOf rebuiltTo rebuilt neverFall below lookupIn lookupOf
 computed = tt
 
 pub steps : Steps

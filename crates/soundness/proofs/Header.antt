@@ -15,7 +15,7 @@ use Rattle.header.specs.Fields as F
 use Rattle.header.specs.Fields.{bytesIn, value}
 use Rattle.header.specs.FirstOf.{firstOf}
 use Rattle.header.specs.State.{DIRTY, withRole}
-use Rattle.header.specs.HeaderTest.{test2, test3, test4, test5, test6, test8, test9, test10, test11, headerTest, layoutOf, shapeOf}
+use Rattle.header.specs.HeaderTest.{test2, test3, test4, test5, test6, test8, test9, imageTotal, test10, test11, headerTest, layoutOf, shapeOf}
 use Rattle.header.specs.Open.{userFields}
 use Rattle.header.specs.Shaped.{Shaped}
 use Rattle.image.specs.Table.{tableOf}
@@ -96,7 +96,7 @@ module _ (o : Options) (start : List ℕ) (holds : Holds o start) (n : ℕ) (ima
   ninth′ role = rw (v F.bucket-count tt tt) (holds .ninth)
 
   tenth′ : firstOf (test10 after) ≡ 0
-  unfolding test10
+  unfolding test10 imageTotal
   tenth′ =
       rw (v F.slots-offset tt tt, v F.buckets-offset tt tt, v F.slot-capacity tt tt, v F.slot-size tt tt, v F.bucket-count tt tt, same-length) (holds .tenth)
 

@@ -16,14 +16,13 @@ use Rattle.header.specs.Fields.{value}
 use Rattle.header.specs.FirstOf.{firstOf}
 use Rattle.header.specs.State.{CLEAN}
 use Rattle.header.specs.HeaderTest.{test1, layoutOf, shapeOf}
-use Rattle.header.specs.Sizes.{slotSize, bucketCount, bucketsOffset}
+use Rattle.header.specs.Sizes.{slotSize, bucketCount, bucketsOffset, total, totalSize}
 use Rattle.image.specs.Check.{passes}
 use Rattle.image.specs.Table.{bucketAt, bucketFrom, bucketOf, tableOf}
 use Rattle.writing.specs.Create.{freshFields, fresh}
 use Rattle.writing.proofs.OneField.{Fits, apart}
 use Rattle.writing.proofs.FieldList.{after}
 use Rattle.writing.proofs.Zeros.{word-zeros}
-use Rattle.writing.proofs.FreshTests.{extent}
 use Rattle.writing.proofs.Fresh.{fresh-value, fresh-behind}
 
 -- "header CLEAN, generation and counters 0", and the sizes as the options say
@@ -54,6 +53,11 @@ or-true false = refl
 buckets-low : (o : Options) → 256 ≤ bucketsOffset (o .«slot_capacity») (slotSize (o .«key_size») (o .«index_size»))
 unfolding bucketsOffset
 buckets-low o = omega arith
+
+-- the buckets end where the image does
+extent : (o : Options) → bucketsOffset (o .«slot_capacity») (slotSize (o .«key_size») (o .«index_size»)) + 16 * bucketCount (o .«slot_capacity») ≡ totalSize o
+unfolding total totalSize
+extent o = refl
 
 -- a table without slots whose buckets are all EMPTY passes the full check
 empty-checks : (t : Table) (ordered : Bool) → t .highwater ≡ 0 → ((b : ℕ) → b < t .B → t .bucket b ≡ EMPTY) → checks t ordered 0 0 0 ≡ true

@@ -13,7 +13,7 @@ use Rattle.header.specs.Fields as F
 use Rattle.header.specs.Fields.{bytesIn, value}
 use Rattle.header.specs.FirstOf.{firstOf}
 use Rattle.header.specs.State.{withRole}
-use Rattle.header.specs.HeaderTest.{test1, test2, test3, test4, test5, test6, test8, test9, test10, test11}
+use Rattle.header.specs.HeaderTest.{test1, test2, test3, test4, test5, test6, test8, test9, imageTotal, test10, test11}
 use Rattle.header.specs.Sizes.{slotSize, bucketCount, bucketsOffset, totalSize}
 use Rattle.header.proofs.Allowed.{allowed}
 use Rattle.header.proofs.Power.{power-of-power}
@@ -29,11 +29,6 @@ use Rattle.writing.proofs.Making.{total-low}
 
 abbrev offset : Options → ℕ
 offset o = bucketsOffset (o .«slot_capacity») (slotSize (o .«key_size») (o .«index_size»))
-
--- the buckets end where the image does
-pub extent : (o : Options) → bucketsOffset (o .«slot_capacity») (slotSize (o .«key_size») (o .«index_size»)) + 16 * bucketCount (o .«slot_capacity») ≡ totalSize o
-unfolding bucketsOffset totalSize
-extent o = refl
 
 module _ (o : Options) (image : List ℕ) (first : firstOf (test1 o) ≡ 0) (v : (m : ℕ) → T (apart m F.header-crc32c) → value image m ≡ after (freshFields o) m 0) (size : length image ≡ totalSize o) where
   second : firstOf (test2 image) ≡ 0
@@ -71,8 +66,8 @@ module _ (o : Options) (image : List ℕ) (first : firstOf (test1 o) ≡ 0) (v :
       rw (v F.bucket-count tt, le-ltb n 2 (bucket-count-two (o .«slot_capacity») (h .capacity-low) (h .capacity-high)), power-of-power (2 * o .«slot_capacity»), eq-eqb n n refl) refl
 
   tenth : firstOf (test10 image) ≡ 0
-  unfolding test10 firstOf freshFields
-  tenth = rw (v F.slots-offset tt, v F.buckets-offset tt, v F.slot-capacity tt, v F.slot-size tt, v F.bucket-count tt, eq-eqb (offset o) (offset o) refl, extent o, eq-eqb (length image) (totalSize o) size) refl
+  unfolding test10 imageTotal firstOf freshFields totalSize
+  tenth = rw (v F.slots-offset tt, v F.buckets-offset tt, v F.slot-capacity tt, v F.slot-size tt, v F.bucket-count tt, eq-eqb (offset o) (offset o) refl, eq-eqb (length image) (totalSize o) size) refl
 
   eleventh : firstOf (test11 image) ≡ 0
   unfolding test11 firstOf freshFields

@@ -15,7 +15,7 @@ use Rattle.header.specs.Fields as F
 use Rattle.header.specs.Fields.{bytesIn, value}
 use Rattle.header.specs.FirstOf.{firstOf}
 use Rattle.header.specs.State.{withRole}
-use Rattle.header.specs.HeaderTest.{test1, test2, test3, test4, test5, test6, test8, test9, test10, test11, headerTest}
+use Rattle.header.specs.HeaderTest.{test1, test2, test3, test4, test5, test6, test8, test9, imageTotal, test10, test11, headerTest}
 use Rattle.header.specs.Sizes.{sizesAllowed}
 use Rattle.header.proofs.Firsts.{fails, neither}
 use Rattle.writing.specs.Write.{withFields, sealed}
@@ -108,7 +108,7 @@ module _ (o : Options) (image image′ : List ℕ) (kept : Kept image image′) 
   ninth′ role = rw (v F.bucket-count tt) (holds .ninth)
 
   tenth′ : firstOf (test10 image′) ≡ 0
-  unfolding test10
+  unfolding test10 imageTotal
   tenth′ =
       rw (v F.slots-offset tt, v F.buckets-offset tt, v F.slot-capacity tt, v F.slot-size tt, v F.bucket-count tt, kept .same-length) (holds .tenth)
 

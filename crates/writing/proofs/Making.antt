@@ -14,7 +14,7 @@ use Rattle.header.specs.declared.options.Options.{Options}
 use Rattle.header.specs.Answer.{too-short}
 use Rattle.header.specs.FirstOf.{firstOf}
 use Rattle.header.specs.HeaderTest.{test1}
-use Rattle.header.specs.Sizes.{totalSize}
+use Rattle.header.specs.Sizes.{bucketsOffset, total, totalSize}
 use Rattle.writing.specs.Write.{withFields, sealed}
 use Rattle.writing.specs.Create.{createTests, freshFields, fresh, createOf}
 use Rattle.writing.proofs.Answers.{says-refused, says-accepted}
@@ -24,7 +24,7 @@ use Rattle.writing.proofs.Tests.{past}
 
 -- a total holds a header
 pub total-low : (o : Options) → 256 ≤ totalSize o
-unfolding totalSize
+unfolding totalSize total bucketsOffset
 total-low o = omega arith
 
 -- zeros put at the start

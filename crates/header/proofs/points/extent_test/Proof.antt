@@ -1,12 +1,10 @@
 -- `header::points::extent_test` meets its contract: where tests 8 and 9 passed, the sum is far below 64 bits.
 -- Assumes nothing.
-use mathlib.Core.Bool.{Bool, _&&_, and-eq-true-iff}
-use borrow.Author.Tests.{eqb-true, not-false}
-use lib.Dec.{eqb}
 use denote.Ref.{now}
 use native.Mathlib.Omega.{arith}
 use Rattle.header.specs.FirstOf.{firstOf}
-use Rattle.header.specs.HeaderTest.{test10}
+use Rattle.header.specs.HeaderTest.{imageTotal, test10}
+use Rattle.header.specs.Sizes.{total}
 use Rattle.header.proofs.Allowed.{allowed}
 use Rattle.header.proofs.PassedTests.{agreed, pinned-offset, pinned-buckets}
 use borrow.Author.Needs.{needs}
@@ -52,13 +50,9 @@ add-total c =
     let a = d .before .before .before .before .before in
     let i = now (a .args .image) in
     let h = allowed (a .args .o) (a .pre .1) in
-    let slots : Bool = eqb (d .before .before .before .read .result) 256 in
-    let buckets : Bool = eqb (d .before .before .read2 .result) (c .before .before .buckets-offset .result) in
-    let right = and-eq-true-iff slots buckets .0 (not-false (slots && buckets) (c .before .if1 .left)) in
     let offset = rw (d .before .read3 .ensures, d .read4 .ensures) at (c .before .before .buckets-offset .ensures) in
     omega (
       arith,
-      eqb-true (d .before .before .read2 .result) (c .before .before .buckets-offset .result) (right .1),
       offset,
       pinned-offset (a .args .o) i h (agreed (a .args .o) i (a .pre .2)),
       pinned-buckets (a .args .o) i h (a .pre .3),
@@ -68,7 +62,7 @@ refuse-requires : tie.Need-refuse-requires
 refuse-requires c κs = search needs
 
 returns-2 : tie.Need-returns-2
-unfolding firstOf test10
+unfolding firstOf test10 imageTotal total
 returns-2 c =
     let e = c .before .before in
     let d = e .before .before in

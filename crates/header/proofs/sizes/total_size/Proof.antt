@@ -1,7 +1,7 @@
 -- `header::sizes::total_size` meets its contract.
 -- Assumes nothing.
 use native.Mathlib.Omega.{arith}
-use Rattle.header.specs.Sizes.{totalSize, bucketsOffset}
+use Rattle.header.specs.Sizes.{total, totalSize}
 use Rattle.header.proofs.Allowed.{allowed, offset-fits, buckets-fit}
 use Rattle.header.proofs.sizes.total_size.Statement.{statement}
 use Rattle.header.proofs.sizes.total_size.Tie as tie
@@ -30,7 +30,7 @@ add-result c =
     omega (arith, buckets-fit o a, offset-fits o a, e)
 
 returns : tie.Need-returns
-unfolding totalSize bucketsOffset
+unfolding totalSize total
 returns c =
     let e = rw (c .before .before .slot-size .ensures) at (c .before .buckets-offset .ensures) in
     omega (arith, e)
