@@ -27,8 +27,10 @@
  * What each major number changed for a host:
  *   2  a match of 0 bits compares the whole pattern; before, it was refused with 7
  *   3  an image is lent with exactly slc1_total_size bytes; before, bytes past these were ignored
- *   4  larger images and batches are taken; before, more than 4,096 slots or 64 records were refused with 7 */
-#define SLC1_VERSION_MAJOR 4
+ *   4  larger images and batches are taken; before, more than 4,096 slots or 64 records were refused with 7
+ *   5  slot_capacity 0 takes the image's own, and images with another number of buckets than slc1_create gives them are taken;
+ *      before, the first was refused with 7 and the second with 2 */
+#define SLC1_VERSION_MAJOR 5
 #define SLC1_VERSION_MINOR 0
 #define SLC1_VERSION_PATCH 0
 #define SLC1_VERSION SLC1_DOTTED(SLC1_VERSION_MAJOR, SLC1_VERSION_MINOR, SLC1_VERSION_PATCH)
@@ -43,7 +45,7 @@ extern "C" {
  * other result is 0, save that the number of buckets comes with SLC1_NOT_PRESENT too. */
 enum {
     SLC1_DONE = 0,          /* done, or found */
-    SLC1_NEEDS_REBUILD = 1, /* damaged, of another length than slc1_total_size, or left dirty by a writer */
+    SLC1_NEEDS_REBUILD = 1, /* damaged, of another length than its header gives, or left dirty by a writer */
     SLC1_INCOMPATIBLE = 2,  /* another format, or other options */
     SLC1_INVALIDATED = 3,   /* the image was given up on purpose */
     SLC1_BUSY = 4,          /* another writer is active */
@@ -63,8 +65,9 @@ enum {
     SLC1_LOCK_HELD = 2        /* accepts one: true only where the caller has held the lock since it became DIRTY */
 };
 
-/* An image has at most so many slots, and a batch at most so many records. */
+/* An image has at most so many slots and so many buckets, and a batch at most so many records. */
 #define SLC1_CAPACITY_LIMIT 1048576
+#define SLC1_BUCKET_LIMIT 4194304
 #define SLC1_BATCH_LIMIT 1024
 
 /* The options. Calls take them as six numbers, which SLC1_OPTIONS spells out, evaluating its argument more than once:
@@ -72,7 +75,7 @@ enum {
 typedef struct slc1_options {
     uint64_t key_size;      /* 1 to 64 bytes */
     uint64_t index_size;    /* 0 to 256 bytes */
-    uint64_t slot_capacity; /* 1 to SLC1_CAPACITY_LIMIT slots */
+    uint64_t slot_capacity; /* 1 to SLC1_CAPACITY_LIMIT slots; 0, but for slc1_create, is as the image's header says */
     uint64_t user_version;  /* any number */
     uint64_t ordered;       /* 0, or 1: keys never fall */
     uint64_t role;          /* 0, 1 or 2, as above */
@@ -85,19 +88,21 @@ typedef struct slc1_options {
 #define SLC1_SIX_NUMBERS \
     uint64_t key_size, uint64_t index_size, uint64_t slot_capacity, uint64_t user_version, uint64_t ordered, uint64_t role
 
-/* Sizes and places. 0 where the options are out of range, or slot is not below slot_capacity. */
+/* Sizes and places, by the options alone. 0 where these are out of range, or slot is not below slot_capacity; with slot_capacity
+ * 0, not below SLC1_CAPACITY_LIMIT. */
 
-/* The number of bytes of an image. Exactly so many are lent: one that is longer or shorter, even by a byte, is refused, with 1
- * where nothing before its length is wrong. A host that reads or maps whole pages lends the file's length, not theirs. */
+/* The number of bytes of an image that slc1_create makes. 0 with slot_capacity 0, too: no header says it here. */
 uint64_t slc1_total_size(SLC1_SIX_NUMBERS);
 
-/* Where in the image the key_size bytes of a slot's key begin. */
+/* Where in the image the key_size bytes of a slot's key begin. It does not depend on the number of slots or buckets. */
 uint64_t slc1_key_offset(SLC1_SIX_NUMBERS, uint64_t slot);
 
-/* Where in the image the index_size bytes of a slot's index begin. */
+/* Where in the image the index_size bytes of a slot's index begin. Nor does this. */
 uint64_t slc1_index_offset(SLC1_SIX_NUMBERS, uint64_t slot);
 
-/* The header comes first; behind it stand the slots, and then the buckets. */
+/* The header comes first; behind it stand the slots, and then the buckets. Exactly the bytes of these are lent: an image that is
+ * longer or shorter, even by a byte, is refused, with 1 where nothing before its length is wrong. A host that reads or maps whole
+ * pages lends the file's length, not theirs. */
 #define SLC1_HEADER_SIZE 256
 
 /* A slot, and a record of a batch:
@@ -119,8 +124,14 @@ uint64_t slc1_index_offset(SLC1_SIX_NUMBERS, uint64_t slot);
 /* Open check: the header test alone. */
 
 /* Whether the image can be used: 0, 1, 2, 3, 4, 7 or 10. Every call below that is lent an image makes this test first,
- * and answers its number where that is not 0. */
+ * and answers its number where that is not 0. An image has 1 to SLC1_CAPACITY_LIMIT slots, and a power of two of buckets: more than
+ * slots, and no more than SLC1_BUCKET_LIMIT. A larger power of two is refused with 2, any other number with 1. */
 uint32_t slc1_open_check(const uint8_t *image, size_t length, SLC1_SIX_NUMBERS);
+
+/* How many slots, buckets and bytes the image has. 0 where the open check does not give 0. */
+uint64_t slc1_image_capacity(const uint8_t *image, size_t length, SLC1_SIX_NUMBERS);
+uint64_t slc1_image_buckets(const uint8_t *image, size_t length, SLC1_SIX_NUMBERS);
+uint64_t slc1_image_total(const uint8_t *image, size_t length, SLC1_SIX_NUMBERS);
 
 /* The caller's own flags, from the header. 0 where the open check does not give 0. */
 uint64_t slc1_user_flags(const uint8_t *image, size_t length, SLC1_SIX_NUMBERS);
@@ -226,8 +237,9 @@ uint32_t slc1_match_results(
 
 /* Create. */
 
-/* Writes a fresh image to the start of a lent buffer, over any bytes: 0; 7 where the options are out of range; 11 where
- * the buffer is shorter than slc1_total_size. Bytes past the total stay; from then on the total alone is lent. */
+/* Writes a fresh image to the start of a lent buffer, over any bytes: 0; 7 where the options are out of range, or slot_capacity
+ * is 0; 11 where the buffer is shorter than slc1_total_size. Bytes past the total stay; from then on the total alone is lent. It
+ * has the smallest power of two of buckets that is not below twice slot_capacity. */
 uint32_t slc1_create(uint8_t *buffer, size_t length, SLC1_SIX_NUMBERS);
 
 /* The writing calls. They want the role SLC1_LOCK_HELD: another writer gives 4, no writer known gives 7. The image is
@@ -351,7 +363,7 @@ static inline const uint8_t *slc1_get(
 static inline uint32_t slc1_delete_record(
     uint8_t *record, size_t length, const slc1_options *options, const uint8_t *key, size_t key_length)
 {
-    if (slc1_total_size(SLC1_OPTIONS(options)) == 0 || key_length != options->key_size)
+    if (slc1_key_offset(SLC1_OPTIONS(options), 0) == 0 || key_length != options->key_size)
         return SLC1_INVALID_INPUT;
     if (length < SLC1_RECORD_SIZE(options->key_size, options->index_size))
         return SLC1_TOO_SHORT;

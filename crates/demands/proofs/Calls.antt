@@ -2,6 +2,7 @@
 -- Assumes nothing.
 use Rattle.writing.proofs.create.create as create
 use Rattle.header.proofs.open.open_check as open-check
+use Rattle.header.proofs.extent.extent_of as extent-of
 use Rattle.writing.proofs.state.begin as begin
 use Rattle.commit.proofs.commit.commit_batch as commit-batch
 use Rattle.writing.proofs.state.checkpoint as checkpoint
@@ -21,6 +22,7 @@ calls =
     record {
       create = owing create.Reads.Post (λ M. create.Met.met) (λ κ a x e p. λ i. record { answer = p .0 i; image = p .1 i });
       open-check = owing open-check.Reads.Post (λ M. open-check.Met.met) (λ κ a x e p. p);
+      extent-of = owing extent-of.Reads.Post (λ M. extent-of.Met.met) (λ κ a x e p. p);
       begin = owing begin.Reads.Post (λ M. begin.Met.met) (λ κ a x e p. λ i. record { answer = p .0 i; image = p .1 i });
       commit = owing commit-batch.Reads.Post (λ M. commit-batch.Met.met) (λ κ a x e p. λ i. record { answer = p .0 i; image = p .1 i });
       checkpoint = owing checkpoint.Reads.Post (λ M. checkpoint.Met.met) (λ κ a x e p. λ i. record { answer = p .0 i; image = p .1 i });

@@ -7,7 +7,7 @@ use lib.ListN.{take, drop}
 use lib.Seq.{take-at}
 use Rattle.header.specs.declared.options.Options.{Options}
 use Rattle.header.specs.FirstOf.{firstOf}
-use Rattle.header.specs.HeaderTest.{test1}
+use Rattle.header.specs.HeaderTest.{createTest1}
 use Rattle.header.specs.Sizes.{totalSize}
 use Rattle.header.proofs.Firsts.{first-none}
 use Rattle.writing.specs.Create.{createTests, fresh, createOf}
@@ -21,9 +21,9 @@ module _ (o : Options) (buffer : List ℕ) (a : createOf o buffer .answer ≡ 0)
   none-holds = sym (answers buffer (fresh o ++ drop (totalSize o) buffer) (firstOf (createTests o buffer))) ∙ a
 
   -- the options are allowed
-  pub create-allowed : firstOf (test1 o) ≡ 0
-  unfolding createTests test1
-  create-allowed = first-none (test1 o) _ tt none-holds .0
+  pub create-allowed : firstOf (createTest1 o) ≡ 0
+  unfolding createTests createTest1
+  create-allowed = first-none (createTest1 o) _ tt none-holds .0
 
   -- a fresh image, and what the buffer had past the total
   pub create-left : createOf o buffer .image ≡ fresh o ++ drop (totalSize o) buffer

@@ -13,7 +13,7 @@ use Rattle.header.specs.Answer.{done, busy, full, out-of-order, invalid-input, 
 use Rattle.header.specs.Fields as F
 use Rattle.header.specs.FirstOf.{firstOf}
 use Rattle.header.specs.State.{CLEAN, INVALIDATED, DIRTY}
-use Rattle.header.specs.HeaderTest.{test1, headerTests, headerTest, afterTest, layoutOf, shapeOf}
+use Rattle.header.specs.HeaderTest.{createTest1, headerTests, headerTest, afterTest, layoutOf, shapeOf}
 use Rattle.header.proofs.PassedTests.{agreed}
 use Rattle.header.proofs.Stages.{passes}
 use Rattle.image.specs.Lookup.{nothing, lookupOf}
@@ -36,7 +36,7 @@ use Rattle.demands.proofs.Numbered.{among, first-among, header-numbered
 use Rattle.demands.proofs.Reading.{open-reads, lookup-reads, check-reads, user-data-reads, scan-reads, match-reads}
 
 create-numbered : (o : Options) (buffer : List ℕ) → Among (done ∷ invalid-input ∷ too-short ∷ []) (createOf o buffer .answer)
-unfolding createOf createTests test1
+unfolding createOf createTests createTest1
 create-numbered o buffer = rw (answers buffer) (first-among (done ∷ invalid-input ∷ too-short ∷ []) (createTests o buffer) refl refl)
 
 -- the tests of the other calls that write

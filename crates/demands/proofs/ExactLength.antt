@@ -17,12 +17,12 @@ use Rattle.header.specs.Answer.{needs-rebuild}
 use Rattle.header.specs.Fields as F
 use Rattle.header.specs.Fields.{fieldOf, bytesIn, value}
 use Rattle.header.specs.FirstOf.{firstOf}
-use Rattle.header.specs.HeaderTest.{test1, test2, test3, test4, test5, test6, test7, test8, test9, imageTotal, test10, test11, test12, headerTests, headerTest, shapeOf, afterTest}
+use Rattle.header.specs.HeaderTest.{test1, createTest1, test2, test3, test4, test5, test6, test7, test8, test9, imageTotal, test10, test11, test12, headerTests, headerTest, shapeOf, afterTest}
 use Rattle.header.specs.Open.{openOf}
 use Rattle.header.specs.Sizes.{totalSize}
 use Rattle.header.proofs.Firsts.{first-none, first-stops}
 use Rattle.header.proofs.Fit.{judged-fit, fit-total}
-use Rattle.header.proofs.PassedTests.{length-passed, role-passed}
+use Rattle.header.proofs.PassedTests.{length-passed, create-role}
 use Rattle.header.proofs.Stages.{staged, passes}
 use Rattle.image.specs.declared.lookup.Lookup.{Lookup}
 use Rattle.image.specs.Lookup.{nothing, lookupIn, lookupOf, indexPart}
@@ -165,7 +165,7 @@ module _ (o : Options) (image : List ℕ) (n : ℕ) (z : headerTest o image ≡ 
           ∙ ap (λ (i : List ℕ). firstOf (nine o i)) (take-append-drop n image)
           ∙ none-of-nine o image z)
 
-accepts : (o : Options) (buffer : List ℕ) → firstOf (test1 o) ≡ 0 → totalSize o ≤ length buffer → createOf o buffer .answer ≡ 0
+accepts : (o : Options) (buffer : List ℕ) → firstOf (createTest1 o) ≡ 0 → totalSize o ≤ length buffer → createOf o buffer .answer ≡ 0
 unfolding createOf
 accepts o buffer first long =
     answers buffer (fresh o ++ drop (totalSize o) buffer) (firstOf (createTests o buffer)) ∙ enough o buffer first refl long
@@ -196,7 +196,7 @@ module _ (o : Options) (buffer more : List ℕ) (size : length buffer ≡ totalS
 -- what create wrote, lent alone and with all of the buffer
 module _ (o : Options) (buffer : List ℕ) (version : Word (o .«user_version»)) (a : createOf o buffer .answer ≡ 0) where
   fresh-opens : headerTest o (fresh o) ≡ 0
-  fresh-opens = let first = create-allowed o buffer a in fresh-header o first version (o .role) (role-passed o first)
+  fresh-opens = let first = create-allowed o buffer a in fresh-header o first version (o .role) (create-role o first)
 
   lent : headerTest o (freshIn o buffer) ≡ 0
   lent = rw (fresh-in o buffer a) fresh-opens

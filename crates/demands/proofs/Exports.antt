@@ -6,6 +6,9 @@ use Rattle.host.proofs.sizes.slc1_index_offset as index-offset
 use Rattle.host.proofs.open.slc1_open_check as open-check
 use Rattle.host.proofs.open.slc1_user_flags as user-flags
 use Rattle.host.proofs.open.slc1_user_data as user-data
+use Rattle.host.proofs.extent.slc1_image_capacity as image-capacity
+use Rattle.host.proofs.extent.slc1_image_buckets as image-buckets
+use Rattle.host.proofs.extent.slc1_image_total as image-total
 use Rattle.host.proofs.lookup.slc1_lookup as lookup
 use Rattle.host.proofs.lookup.slc1_lookup_slot as lookup-slot
 use Rattle.host.proofs.lookup.slc1_lookup_revision as lookup-revision
@@ -46,6 +49,9 @@ exports =
       open-check = owing open-check.Reads.Post (λ M. open-check.Met.met) (λ κ a x e p. p);
       user-flags = owing user-flags.Reads.Post (λ M. user-flags.Met.met) (λ κ a x e p. p);
       user-data = owing user-data.Reads.Post (λ M. user-data.Met.met) (λ κ a x e p. λ i. record { answer = p .0 i; bytes = p .1 i });
+      image-capacity = owing image-capacity.Reads.Post (λ M. image-capacity.Met.met) (λ κ a x e p. p);
+      image-buckets = owing image-buckets.Reads.Post (λ M. image-buckets.Met.met) (λ κ a x e p. p);
+      image-total = owing image-total.Reads.Post (λ M. image-total.Met.met) (λ κ a x e p. p);
       lookup = owing lookup.Reads.Post (λ M. lookup.Met.met) (λ κ a x e p. p);
       lookup-slot = owing lookup-slot.Reads.Post (λ M. lookup-slot.Met.met) (λ κ a x e p. p);
       lookup-revision = owing lookup-revision.Reads.Post (λ M. lookup-revision.Met.met) (λ κ a x e p. p);

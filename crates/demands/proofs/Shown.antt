@@ -1,19 +1,22 @@
 -- What a host reads at a slot is what the library reads there: the places that the host is given are those of the image.
 -- Assumes nothing.
-use Prim.Native.Nat.{ℕ, _-_, _<_}
+use Prim.Native.Nat.{ℕ, zero, suc, _-_, _<_}
+use mathlib.Core.Bool.{cond}
 use mathlib.Core.Path.{_≡_, refl, _∙_}
 use mathlib.Core.List.{List}
 use native.Mathlib.Omega.{arith}
-use borrow.Author.Tests.{lt-ltb}
+use borrow.Author.Tests.{lt-ltb, ne-eqb}
+use lib.Dec.{eqb}
 use Rattle.header.specs.declared.options.Options.{Options}
 use Rattle.header.specs.declared.shape.Shape.{Shape}
 use Rattle.header.specs.HeaderTest.{headerTest, layoutOf, shapeOf}
 use Rattle.header.specs.Shaped.{Shaped}
-use Rattle.header.proofs.Fit.{judged-fit, fit-shaped, fit-key-size, fit-index-size, fit-slot-capacity}
+use Rattle.header.specs.Sizes.{most-slot-capacity}
+use Rattle.header.proofs.Fit.{judged-fit, fit-shaped, fit-key-size, fit-index-size, fit-capacity, fit-given}
 use Rattle.header.proofs.Stages.{passes}
 use Rattle.image.specs.Table.{slotAt, keyAt, revisionAt, indexAt, keyOf, revisionOf, indexOf}
 use Rattle.image.proofs.Places.{revision-in-slot, key-inside, index-inside}
-use Rattle.host.specs.Places.{placeIn, keyPlace, indexPlace}
+use Rattle.host.specs.Places.{slotsFor, placeIn, keyPlace, indexPlace}
 use Rattle.maps.proofs.MapSlots.{entryOf}
 use Rattle.demands.specs.Shows.{Shows}
 
@@ -30,13 +33,19 @@ module _ (o : Options) (image : List ℕ) (z : headerTest o image ≡ 0) where
   same-index-size : s .layout .«index_size» ≡ o .«index_size»
   same-index-size = fit-index-size o image s (judged-fit o image z)
 
-  same-capacity : s .layout .«slot_capacity» ≡ o .«slot_capacity»
-  same-capacity = fit-slot-capacity o image s (judged-fit o image z)
+  -- a slot of the image is one that there can be under the options
+  can-be : (n : ℕ) → n < s .layout .«slot_capacity» → n < slotsFor (o .«slot_capacity»)
+  unfolding slotsFor
+  can-be n inside = go (o .«slot_capacity») refl
+    where
+      go : (option : ℕ) → o .«slot_capacity» ≡ option → n < cond (eqb option 0) most-slot-capacity option
+      go zero e = omega (arith, fit-capacity o image s (judged-fit o image z) .1)
+      go (suc m) e = rw (ne-eqb (suc m) 0 (λ z. omega arith)) (omega (arith, e, fit-given o image s (judged-fit o image z) (λ z. omega arith)))
 
   module _ (n : ℕ) (inside : n < s .layout .«slot_capacity») where
     given : (place : ℕ) → placeIn o n place ≡ place
     unfolding placeIn
-    given place = rw (passes o image z .first, lt-ltb n (o .«slot_capacity») (rw same-capacity at inside)) refl
+    given place = rw (passes o image z .first, lt-ltb n (slotsFor (o .«slot_capacity»)) (can-be n inside)) refl
 
     key-placed : keyPlace o n ≡ keyAt (s .layout) n
     unfolding keyPlace keyAt slotAt

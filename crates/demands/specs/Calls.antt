@@ -3,6 +3,7 @@
 use denote.Ref.{now}
 use Rattle.numbers.specs.Age.{ageOf}
 use Rattle.header.specs.Open.{openOf}
+use Rattle.header.specs.Extent.{extentOf}
 use Rattle.image.specs.Lookup.{lookupOf, indexPart}
 use Rattle.image.specs.Check.{checkOf}
 use Rattle.listing.specs.Scan.{scanOf}
@@ -12,6 +13,7 @@ use Rattle.writing.specs.State.{beginOf, checkpointOf, invalidateOf, setUserFie
 use Rattle.commit.specs.Commit.{commitOf}
 use Rattle.writing.proofs.create.create as create
 use Rattle.header.proofs.open.open_check as open-check
+use Rattle.header.proofs.extent.extent_of as extent-of
 use Rattle.writing.proofs.state.begin as begin
 use Rattle.commit.proofs.commit.commit_batch as commit-batch
 use Rattle.writing.proofs.state.checkpoint as checkpoint
@@ -36,6 +38,11 @@ pub record Calls : Type 2 where
       Owes open-check.ended open-check.Symbol.routine
       (λ κ x e. x)
       (λ κ a. openOf (arg2 a) (now (arg1 a)))
+  -- "The judged header therefore carries capacity, B and offsets to every later call." (CR 10)
+  pub extent-of :
+      Owes extent-of.ended extent-of.Symbol.routine
+      (λ κ x e. x)
+      (λ κ a. extentOf (arg2 a) (now (arg1 a)))
   -- "Begin"
   pub begin :
       Owes begin.ended begin.Symbol.routine

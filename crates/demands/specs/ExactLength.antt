@@ -9,7 +9,7 @@ use Rattle.header.specs.declared.options.Options.{Options}
 use Rattle.header.specs.declared.open.UserFields.{UserFields}
 use Rattle.header.specs.Answer.{done, needs-rebuild}
 use Rattle.header.specs.FirstOf.{firstOf}
-use Rattle.header.specs.HeaderTest.{test1, test2, test3, test4, test5, test6, test7, test8, test9, imageTotal, headerTest}
+use Rattle.header.specs.HeaderTest.{test1, createTest1, test2, test3, test4, test5, test6, test7, test8, test9, imageTotal, headerTest}
 use Rattle.header.specs.Open.{noFields, openOf}
 use Rattle.header.specs.Sizes.{totalSize}
 use Rattle.image.specs.Lookup.{nothing, lookupOf, indexPart}
@@ -29,7 +29,7 @@ use Rattle.demands.specs.Owes.{written}
 abbrev pub nine : Options → List ℕ → List (Bool × ℕ)
 nine o image =
     test1 o ++ test2 image ++ test3 image ++ test4 o image ++ test5 image ++ test6 image ++ test7 image ++ test8 o image
-    ++ test9 o image
+    ++ test9 image
 
 -- "a length other than the total is 1", unless one of these gives another number
 abbrev pub number : Options → List ℕ → ℕ
@@ -73,7 +73,7 @@ pub record ExactLength : Type 0 where
   pub cut : (o : Options) (image : List ℕ) (n : ℕ) → headerTest o image ≡ done → 1 ≤ n → n < imageTotal image
       → headerTest o (take n image) ≡ needs-rebuild
   -- "create still accepts a longer buffer": it makes of the total's bytes what it makes of them alone, and leaves the rest
-  pub accepts : (o : Options) (buffer : List ℕ) → firstOf (test1 o) ≡ 0 → totalSize o ≤ length buffer
+  pub accepts : (o : Options) (buffer : List ℕ) → firstOf (createTest1 o) ≡ 0 → totalSize o ≤ length buffer
       → createOf o buffer .answer ≡ done
   pub create : (o : Options) (buffer more : List ℕ) → length buffer ≡ totalSize o
       → createOf o (buffer ++ more) ≡ written (createOf o buffer .answer) (createOf o buffer .image ++ more)

@@ -5,6 +5,7 @@ use Rattle.numbers.specs.Age.{ageOf}
 use Rattle.digests.specs.Fnv.{fnv1a64}
 use Rattle.digests.specs.Crc.{crc32c}
 use Rattle.header.specs.Open.{openOf}
+use Rattle.header.specs.Extent.{extentOf}
 use Rattle.image.specs.Lookup.{lookupOf}
 use Rattle.image.specs.Check.{checkOf}
 use Rattle.listing.specs.Scan.{scanOf}
@@ -22,6 +23,9 @@ use Rattle.host.proofs.sizes.slc1_index_offset as index-offset
 use Rattle.host.proofs.open.slc1_open_check as open-check
 use Rattle.host.proofs.open.slc1_user_flags as user-flags
 use Rattle.host.proofs.open.slc1_user_data as user-data
+use Rattle.host.proofs.extent.slc1_image_capacity as image-capacity
+use Rattle.host.proofs.extent.slc1_image_buckets as image-buckets
+use Rattle.host.proofs.extent.slc1_image_total as image-total
 use Rattle.host.proofs.lookup.slc1_lookup as lookup
 use Rattle.host.proofs.lookup.slc1_lookup_slot as lookup-slot
 use Rattle.host.proofs.lookup.slc1_lookup_revision as lookup-revision
@@ -77,6 +81,18 @@ pub record Exports : Type 2 where
       Owes user-data.ended user-data.Symbol.routine
       (λ κ x e. filled x (now (arg8 e)))
       (λ κ a. userDataOf (hostOptions (a .1)) (now (arg1 a)) (now (arg8 a)))
+  pub image-capacity :
+      Owes image-capacity.ended image-capacity.Symbol.routine
+      (λ κ x e. x)
+      (λ κ a. extentOf (hostOptions (a .1)) (now (arg1 a)) .capacity)
+  pub image-buckets :
+      Owes image-buckets.ended image-buckets.Symbol.routine
+      (λ κ x e. x)
+      (λ κ a. extentOf (hostOptions (a .1)) (now (arg1 a)) .buckets)
+  pub image-total :
+      Owes image-total.ended image-total.Symbol.routine
+      (λ κ x e. x)
+      (λ κ a. extentOf (hostOptions (a .1)) (now (arg1 a)) .total)
   pub lookup :
       Owes lookup.ended lookup.Symbol.routine
       (λ κ x e. x)

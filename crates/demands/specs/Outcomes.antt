@@ -27,8 +27,11 @@ use Rattle.header.proofs.fields.read.Reads as read-reads
 use Rattle.header.proofs.fields.bytes_in.Reads as bytes-in-reads
 use Rattle.header.proofs.judge.judge.Reads as judge-reads
 use Rattle.header.proofs.judge.options_test.Reads as options-test-reads
+use Rattle.header.proofs.judge.create_options_test.Reads as create-options-test-reads
 use Rattle.header.proofs.options.bench.Reads as bench-reads
-use Rattle.header.proofs.sizes.sizes_allowed.Reads as sizes-allowed-reads
+use Rattle.header.proofs.sizes.sizes_to_open.Reads as sizes-to-open-reads
+use Rattle.header.proofs.sizes.sizes_to_create.Reads as sizes-to-create-reads
+use Rattle.header.proofs.sizes.capacity_fits.Reads as capacity-fits-reads
 use Rattle.header.proofs.sizes.align8.Reads as align8-reads
 use Rattle.header.proofs.sizes.slot_size.Reads as slot-size-reads
 use Rattle.header.proofs.sizes.power_of_two.Reads as power-of-two-reads
@@ -110,10 +113,13 @@ pub record Outcomes : Type 2 where
   -- header, judge
   pub judge : One judge-reads.Post (λ κ x e. x)
   pub options-test : One options-test-reads.Post (λ κ x e. x)
+  pub create-options-test : One create-options-test-reads.Post (λ κ x e. x)
   -- header, options
   pub bench : One bench-reads.Post (λ κ x e. x)
   -- header, sizes
-  pub sizes-allowed : One sizes-allowed-reads.Post (λ κ x e. x)
+  pub sizes-to-open : One sizes-to-open-reads.Post (λ κ x e. x)
+  pub sizes-to-create : One sizes-to-create-reads.Post (λ κ x e. x)
+  pub capacity-fits : One capacity-fits-reads.Post (λ κ x e. x)
   pub align8 : One align8-reads.Post (λ κ x e. x)
   pub slot-size : One slot-size-reads.Post (λ κ x e. x)
   pub power-of-two : One power-of-two-reads.Post (λ κ x e. x)

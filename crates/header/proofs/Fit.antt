@@ -1,20 +1,22 @@
 -- What a judgement says: of an image that fits its shape and all that later code relies on, of a refused one its number.
 -- Assumes nothing.
-use Prim.Native.Nat.{ℕ, zero, suc, _^_, _≤_, _<_}
+use Prim.Native.Nat.{ℕ, zero, suc, _≤_, _<_}
 use mathlib.Core.Bool.{true}
 use mathlib.Core.Path.{_≡_, refl}
 use mathlib.Core.List.{List}
 use native.Mathlib.Omega.{arith}
+use borrow.Author.Tests.{eqb-true, ne-eqb}
 use lib.ListN.{length}
 use Rattle.header.specs.declared.options.Options.{Options}
 use Rattle.header.specs.declared.shape.Shape.{Shape}
 use Rattle.header.specs.declared.shape.Judged.the-variants.{Fit, Refused}
+use Rattle.header.specs.Fields as F
+use Rattle.header.specs.Fields.{value}
 use Rattle.header.specs.HeaderTest.{imageTotal, headerTest, layoutOf, shapeOf, verdict, judged}
 use Rattle.header.specs.Shaped.{Shaped}
-use Rattle.header.specs.Sizes.{sizesAllowed, bucketCount, total}
-use Rattle.header.proofs.Allowed.{allowed}
-use Rattle.header.proofs.PassedTests.{Agreed, agreed, ruled, allowed-passed, length-passed, extent-passed, counters-passed}
-use Rattle.header.proofs.SizeLaws.{bucket-count-room, bucket-count-limit}
+use Rattle.header.specs.Sizes.{most-slot-capacity, sizesToOpen, capacityFits, total}
+use Rattle.header.proofs.Allowed.{allowed, capacity-within}
+use Rattle.header.proofs.PassedTests.{Agreed, agreed, Powered, powered, allowed-passed, length-passed, extent-passed, counters-passed}
 use Rattle.header.proofs.Stages.{Passes, passes}
 
 -- by the header test's number
@@ -52,7 +54,7 @@ module _ (o : Options) (image : List ℕ) (s : Shape) (fit : judged o image ≡ 
   passed : Passes o image
   passed = passes o image fit-number
 
-  pub fit-allowed : sizesAllowed o ≡ true
+  pub fit-allowed : sizesToOpen o ≡ true
   fit-allowed = allowed-passed o (passed .first)
 
   pub fit-length : 256 ≤ length image
@@ -70,19 +72,22 @@ module _ (o : Options) (image : List ℕ) (s : Shape) (fit : judged o image ≡ 
   unfolding shapeOf layoutOf
   fit-index-size = rw fit-shape (says .index)
 
-  pub fit-slot-capacity : s .layout .«slot_capacity» ≡ o .«slot_capacity»
+  -- "within 1 to 1,048,576", whatever the option says (CR 10)
+  pub fit-capacity : (1 ≤ s .layout .«slot_capacity») × (s .layout .«slot_capacity» ≤ most-slot-capacity)
   unfolding shapeOf layoutOf
-  fit-slot-capacity = rw fit-shape (says .capacity)
+  fit-capacity =
+      rw fit-shape
+      (capacity-within (o .«slot_capacity») (value image F.slot-capacity) (allowed o fit-allowed .capacity-high) (says .capacity))
 
-  pub fit-bucket-count : s .layout .«bucket_count» ≡ bucketCount (o .«slot_capacity»)
-  unfolding shapeOf layoutOf
-  fit-bucket-count = rw fit-shape (ruled o image (passed .ninth))
+  -- and a given capacity is the header's
+  pub fit-given : (o .«slot_capacity» ≡ 0 → ⊥) → s .layout .«slot_capacity» ≡ o .«slot_capacity»
+  unfolding shapeOf layoutOf capacityFits
+  fit-given given =
+      rw fit-shape (eqb-true _ _ (rw (ne-eqb (o .«slot_capacity») 0 given) at (says .capacity)))
 
-  -- a slot number, and a bucket number, has 32 bits
-  pub fit-small : s .layout .«bucket_count» ≤ 2 ^ 32
-  fit-small =
-      let h = allowed o fit-allowed in
-      rw fit-bucket-count (bucket-count-limit (o .«slot_capacity») (h .capacity-low) (h .capacity-high))
+  -- "any power of two above slot_capacity, up to 4,194,304" (CR 10)
+  pub fit-powered : Powered image
+  fit-powered = powered image (passed .ninth)
 
   -- "a length other than the total" (CR 8): not this
   pub fit-total : length image ≡ imageTotal image
@@ -91,16 +96,14 @@ module _ (o : Options) (image : List ℕ) (s : Shape) (fit : judged o image ≡ 
   pub fit-shaped : Shaped s image
   unfolding shapeOf layoutOf imageTotal total
   fit-shaped =
-      let h = allowed o fit-allowed in
-      let room = bucket-count-room (o .«slot_capacity») (h .capacity-low) (h .capacity-high) in
       record {
         laid = record {
-          keys = rw fit-key-size (h .key-high);
+          keys = rw fit-key-size (allowed o fit-allowed .key-high);
           slot = rw fit-shape (rw (says .key, says .index) (says .slot));
           offset = rw fit-shape (extent-passed image (passed .tenth) .0);
           size = rw (fit-shape, extent-passed image (passed .tenth) .0) fit-total;
-          room = rw (fit-slot-capacity, fit-bucket-count) room;
-          small = fit-small;
+          room = rw fit-shape (fit-powered .above);
+          small = rw fit-shape (omega (arith, fit-powered .most));
         };
         counters = rw fit-shape (counters-passed image (passed .eleventh) .0);
         highwater = rw fit-shape (counters-passed image (passed .eleventh) .1);

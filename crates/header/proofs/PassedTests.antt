@@ -1,38 +1,70 @@
 -- What it says of an image that a test of the header test passed.
 -- Assumes nothing.
-use Prim.Native.Nat.{ℕ, _+_, _*_, _^_, _≤_}
+use Prim.Native.Nat.{ℕ, _+_, _^_, _≤_, _<_}
 use mathlib.Core.Bool.{Bool, true, false, not, _&&_, _||_, and-eq-true-iff}
-use mathlib.Core.Path.{_≡_}
+use mathlib.Core.Path.{_≡_, refl}
 use mathlib.Core.List.{List, [], _∷_}
-use borrow.Author.Tests.{eqb-true, leb-true, ltb-false, not-false}
+use native.Mathlib.Omega.{arith}
+use borrow.Author.Tests.{eqb-true, leb-true, ltb-true, ltb-false, le-ltb, not-false}
 use lib.Dec.{eqb, leb, ltb}
 use lib.ListN.{length}
 use Rattle.header.specs.declared.options.Options.{Options}
 use Rattle.header.specs.Fields as F
 use Rattle.header.specs.Fields.{value}
 use Rattle.header.specs.FirstOf.{firstOf}
-use Rattle.header.specs.Sizes.{sizesAllowed, slotSize, bucketCount, bucketsOffset}
-use Rattle.header.specs.HeaderTest.{powerOfTwo, test1, test2, test8, test9, imageTotal, test10, test11}
+use Rattle.header.specs.State.{withRole}
+use Rattle.header.specs.Sizes.{most-bucket-count, sizesToOpen, sizesToCreate, capacityFits, slotSize, bucketsOffset, total}
+use Rattle.header.specs.HeaderTest.{powerOfTwo, optionsTest, test1, createTest1, test2, test8, test9, imageTotal, test10, test11}
 use Rattle.header.proofs.Firsts.{first-none, fails, neither}
-use Rattle.header.proofs.Allowed.{Allowed, offset-fits, buckets-fit}
+use Rattle.header.proofs.Allowed.{Allowed, Sized, sized, capacity-within}
+use Rattle.header.proofs.SizeLaws.{slot-size-limit, offset-limit}
 
 -- "Options outside the sizes, ordered above 1, or role above 2": none of these
+module _ (inside : Bool) (o : Options) (z : firstOf (optionsTest inside o) ≡ 0) where
+  in-range : (not inside || ltb 1 (o .ordered) ≡ false) × (ltb 2 (o .role) ≡ false)
+  in-range =
+      neither (not inside || ltb 1 (o .ordered)) (ltb 2 (o .role)) (fails (not inside || ltb 1 (o .ordered) || ltb 2 (o .role)) 6 z)
+
+  inside-passed : inside ≡ true
+  inside-passed = not-false inside (neither (not inside) (ltb 1 (o .ordered)) (in-range .0) .0)
+
+  ordered-in-range : o .ordered ≤ 1
+  ordered-in-range = ltb-false 1 (o .ordered) (neither (not inside) (ltb 1 (o .ordered)) (in-range .0) .1)
+
+  role-in-range : o .role ≤ 2
+  role-in-range = ltb-false 2 (o .role) (in-range .1)
+
+-- for the calls that open an image
 module _ (o : Options) (z : firstOf (test1 o) ≡ 0) where
-  abbrev outside : Bool
-  outside = not (sizesAllowed o)
-
-  in-range : (outside || ltb 1 (o .ordered) ≡ false) × (ltb 2 (o .role) ≡ false)
+  pub allowed-passed : sizesToOpen o ≡ true
   unfolding test1
-  in-range = neither (outside || ltb 1 (o .ordered)) (ltb 2 (o .role)) (fails (outside || ltb 1 (o .ordered) || ltb 2 (o .role)) 6 z)
-
-  pub allowed-passed : sizesAllowed o ≡ true
-  allowed-passed = not-false (sizesAllowed o) (neither outside (ltb 1 (o .ordered)) (in-range .0) .0)
-
-  pub ordered-passed : o .ordered ≤ 1
-  ordered-passed = ltb-false 1 (o .ordered) (neither outside (ltb 1 (o .ordered)) (in-range .0) .1)
+  allowed-passed = inside-passed (sizesToOpen o) o z
 
   pub role-passed : o .role ≤ 2
-  role-passed = ltb-false 2 (o .role) (in-range .1)
+  unfolding test1
+  role-passed = role-in-range (sizesToOpen o) o z
+
+-- and for create
+module _ (o : Options) (z : firstOf (createTest1 o) ≡ 0) where
+  pub create-allowed : sizesToCreate o ≡ true
+  unfolding createTest1
+  create-allowed = inside-passed (sizesToCreate o) o z
+
+  pub create-sized : Sized o
+  create-sized = sized o create-allowed
+
+  pub create-ordered : o .ordered ≤ 1
+  unfolding createTest1
+  create-ordered = ordered-in-range (sizesToCreate o) o z
+
+  pub create-role : o .role ≤ 2
+  unfolding createTest1
+  create-role = role-in-range (sizesToCreate o) o z
+
+  -- what passes here passes there, under any role
+  pub create-opens : (role : ℕ) → role ≤ 2 → firstOf (test1 (withRole o role)) ≡ 0
+  unfolding test1 firstOf sizesToOpen
+  create-opens role low = rw (create-sized .opens, le-ltb 1 (o .ordered) create-ordered, le-ltb 2 role low) refl
 
 -- "Length 0", "Length 1 to 255": neither
 pub length-passed : (image : List ℕ) → firstOf (test2 image) ≡ 0 → 256 ≤ length image
@@ -68,12 +100,12 @@ counters-passed image z =
     (rw e (leb-true _ _ (q .1)), leb-true _ _ (p .1))
 
 module _ (o : Options) (image : List ℕ) where
-  -- "key_size, index_size, slot_size, slot_capacity, user_version or ordered flag not as the options say": none of these
+  -- "key_size, index_size, slot_size, slot_capacity, user_version or ordered flag not as the options say" (CR 10): none of these
   pub record Agreed : Type 0 where
     pub key : value image F.key-size ≡ o .«key_size»
     pub index : value image F.index-size ≡ o .«index_size»
     pub slot : value image F.slot-size ≡ slotSize (o .«key_size») (o .«index_size»)
-    pub capacity : value image F.slot-capacity ≡ o .«slot_capacity»
+    pub capacity : capacityFits (o .«slot_capacity») (value image F.slot-capacity) ≡ true
     pub version : value image F.user-version ≡ o .«user_version»
     pub flag : value image F.flags ≡ o .ordered
 
@@ -83,7 +115,7 @@ module _ (o : Options) (image : List ℕ) where
       let k : Bool = eqb (value image F.key-size) (o .«key_size») in
       let i : Bool = eqb (value image F.index-size) (o .«index_size») in
       let s : Bool = eqb (value image F.slot-size) (slotSize (o .«key_size») (o .«index_size»)) in
-      let c : Bool = eqb (value image F.slot-capacity) (o .«slot_capacity») in
+      let c : Bool = capacityFits (o .«slot_capacity») (value image F.slot-capacity) in
       let v : Bool = eqb (value image F.user-version) (o .«user_version») in
       let f : Bool = eqb (value image F.flags) (o .ordered) in
       let t = not-false (k && i && s && c && v && f) (fails (not (k && i && s && c && v && f)) 1 z) in
@@ -96,22 +128,38 @@ module _ (o : Options) (image : List ℕ) where
         key = eqb-true _ _ (p₁ .0);
         index = eqb-true _ _ (p₁ .1);
         slot = eqb-true _ _ (p₂ .1);
-        capacity = eqb-true _ _ (p₃ .1);
+        capacity = p₃ .1;
         version = eqb-true _ _ (p₄ .1);
         flag = eqb-true _ _ (p₅ .1);
       }
 
-  -- "Another power of two than the rule's": not this
-  pub ruled : firstOf (test9 o image) ≡ 0 → value image F.bucket-count ≡ bucketCount (o .«slot_capacity»)
-  unfolding test9
-  ruled z =
-      let b : Bool = eqb (value image F.bucket-count) (bucketCount (o .«slot_capacity»)) in
-      let rest = first-none ((ltb (value image F.bucket-count) 2 || not (powerOfTwo (value image F.bucket-count)), 1) ∷ []) ((not b, 2) ∷ []) tt z .1 in
-      eqb-true _ _ (not-false b (fails (not b) 1 rest))
+-- "B may be any power of two above slot_capacity, up to 4,194,304" (CR 10)
+pub record Powered (image : List ℕ) : Type 0 where
+  pub power : powerOfTwo (value image F.bucket-count) ≡ true
+  pub above : value image F.slot-capacity < value image F.bucket-count
+  pub most : value image F.bucket-count ≤ most-bucket-count
 
-  -- where the sizes are as the options say, sums and products of them have at most 64 bits
-  pub pinned-offset : Allowed o → Agreed → bucketsOffset (value image F.slot-capacity) (value image F.slot-size) ≤ 2 ^ 49
-  pinned-offset h a = rw (a .capacity, a .slot) (offset-fits o h)
+pub powered : (image : List ℕ) → firstOf (test9 image) ≡ 0 → Powered image
+unfolding test9
+powered image z =
+    let p : Bool = powerOfTwo (value image F.bucket-count) in
+    let larger : Bool = ltb most-bucket-count (value image F.bucket-count) in
+    let higher : Bool = ltb (value image F.slot-capacity) (value image F.bucket-count) in
+    let both = first-none ((p && larger, 2) ∷ []) ((not (p && higher), 1) ∷ []) tt z in
+    let good = and-eq-true-iff p higher .0 (not-false (p && higher) (fails (not (p && higher)) 0 (both .1))) in
+    record {
+      power = good .0;
+      above = ltb-true _ _ (good .1);
+      most = ltb-false most-bucket-count _ (rw (good .0) at (fails (p && larger) 1 (both .0)));
+    }
 
-  pub pinned-buckets : Allowed o → firstOf (test9 o image) ≡ 0 → 16 * value image F.bucket-count ≤ 2 ^ 49
-  pinned-buckets h z = rw (ruled z) (buckets-fit o h)
+-- where tests 8 and 9 passed, the total is far below 64 bits
+pub total-fits : (o : Options) (image : List ℕ) → Allowed o → firstOf (test8 o image) ≡ 0 → firstOf (test9 image) ≡ 0 → imageTotal image < 2 ^ 64
+unfolding imageTotal total
+total-fits o image h eighth ninth =
+    let a = agreed o image eighth in
+    let offset =
+    offset-limit (value image F.slot-capacity) (value image F.slot-size) (capacity-within (o .«slot_capacity») (value image F.slot-capacity) (h .capacity-high) (a .capacity) .1)
+    (rw (a .slot) (slot-size-limit (o .«key_size») (o .«index_size») (h .key-high) (h .index-high)))
+    in
+    omega (arith, offset, powered image ninth .most)

@@ -15,7 +15,7 @@ abbrev pub written : Options → List ℕ → List (Bool × ℕ)
 written o image = test3 image ++ (test4 o image ++ (test5 image ++ (test6 image ++ test7 image)))
 
 abbrev pub fitting : Options → List ℕ → List (Bool × ℕ)
-fitting o image = test8 o image ++ (test9 o image ++ (test10 image ++ (test11 image ++ test12 o image)))
+fitting o image = test8 o image ++ (test9 image ++ (test10 image ++ (test11 image ++ test12 o image)))
 
 pub staged : (o : Options) (image : List ℕ) → headerTest o image ≡ firstOf (test1 o ++ (test2 image ++ (written o image ++ fitting o image)))
 unfolding headerTest headerTests
@@ -35,7 +35,7 @@ pub record Passes (o : Options) (image : List ℕ) : Type 0 where
   pub first : firstOf (test1 o) ≡ 0
   pub second : firstOf (test2 image) ≡ 0
   pub eighth : firstOf (test8 o image) ≡ 0
-  pub ninth : firstOf (test9 o image) ≡ 0
+  pub ninth : firstOf (test9 image) ≡ 0
   pub tenth : firstOf (test10 image) ≡ 0
   pub eleventh : firstOf (test11 image) ≡ 0
 
@@ -45,8 +45,8 @@ passes o image z =
     let from2 = first-none (test1 o) (test2 image ++ (written o image ++ fitting o image)) tt (sym (staged o image) ∙ z) in
     let from3 = first-none (test2 image) (written o image ++ fitting o image) tt (from2 .1) in
     let from8 = first-none (written o image) (fitting o image) (written-named o image) (from3 .1) in
-    let from9 = first-none (test8 o image) (test9 o image ++ (test10 image ++ (test11 image ++ test12 o image))) tt (from8 .1) in
-    let from10 = first-none (test9 o image) (test10 image ++ (test11 image ++ test12 o image)) tt (from9 .1) in
+    let from9 = first-none (test8 o image) (test9 image ++ (test10 image ++ (test11 image ++ test12 o image))) tt (from8 .1) in
+    let from10 = first-none (test9 image) (test10 image ++ (test11 image ++ test12 o image)) tt (from9 .1) in
     let from11 = first-none (test10 image) (test11 image ++ test12 o image) tt (from10 .1) in
     let from12 = first-none (test11 image) (test12 o image) tt (from11 .1) in
     record {

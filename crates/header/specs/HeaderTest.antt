@@ -17,15 +17,23 @@ use Rattle.header.specs.Fields as F
 use Rattle.header.specs.Fields.{value, bytesIn, SLC1}
 use Rattle.header.specs.FirstOf.{firstOf}
 use Rattle.header.specs.State.{INVALIDATED, DIRTY, no-writer-known, another-writer, holds-the-lock}
-use Rattle.header.specs.Sizes.{sizesAllowed, slotSize, powerFrom, bucketCount, bucketsOffset, total}
+use Rattle.header.specs.Sizes.{most-bucket-count, sizesToOpen, sizesToCreate, capacityFits, slotSize, powerFrom, bucketsOffset, total}
 
 -- whether a number of 64 bits is a power of two
 unfoldable pub powerOfTwo : ℕ → Bool
 powerOfTwo n = eqb (powerFrom 64 0 n) n
 
--- "1. Options outside the sizes, ordered above 1, or role above 2: 7."
+-- "Options outside the sizes, ordered above 1, or role above 2: 7.", by whether they are inside the sizes
+abbrev pub optionsTest : Bool → Options → List (Bool × ℕ)
+optionsTest inside o = (not inside || ltb 1 (o .ordered) || ltb holds-the-lock (o .role), invalid-input) ∷ []
+
+-- "1." Options as above: of a call that opens an image
 unfoldable pub test1 : Options → List (Bool × ℕ)
-test1 o = (not (sizesAllowed o) || ltb 1 (o .ordered) || ltb holds-the-lock (o .role), invalid-input) ∷ []
+test1 o = optionsTest (sizesToOpen o) o
+
+-- and of create, which has no header to say the capacity
+unfoldable pub createTest1 : Options → List (Bool × ℕ)
+createTest1 o = optionsTest (sizesToCreate o) o
 
 -- "2. Length 0: 10. Length 1 to 255: 1."
 unfoldable pub test2 : List ℕ → List (Bool × ℕ)
@@ -62,23 +70,27 @@ test6 image =
 unfoldable pub test7 : List ℕ → List (Bool × ℕ)
 test7 image = (eqb (value image F.state) INVALIDATED, invalidated) ∷ []
 
--- "8. key_size, index_size, slot_size, slot_capacity, user_version or ordered flag not as the options say: 2."
+-- "8. key_size, index_size, slot_size, slot_capacity, user_version or ordered flag not as the options say: 2."; capacity 0 says
+-- "as the header says ..., else 2" (CR 10)
 unfoldable pub test8 : Options → List ℕ → List (Bool × ℕ)
 test8 o image = (
   not
       (eqb (value image F.key-size) (o .«key_size») && eqb (value image F.index-size) (o .«index_size»)
       && eqb (value image F.slot-size) (slotSize (o .«key_size») (o .«index_size»))
-      && eqb (value image F.slot-capacity) (o .«slot_capacity») && eqb (value image F.user-version) (o .«user_version»)
+      && capacityFits (o .«slot_capacity») (value image F.slot-capacity) && eqb (value image F.user-version) (o .«user_version»)
       && eqb (value image F.flags) (o .ordered)),
   incompatible,
 )
     ∷ []
 
--- "9. bucket_count below 2 or no power of two: 1. Another power of two than the rule's: 2."
-unfoldable pub test9 : Options → List ℕ → List (Bool × ℕ)
-test9 o image =
-    (ltb (value image F.bucket-count) 2 || not (powerOfTwo (value image F.bucket-count)), needs-rebuild)
-    ∷ (not (eqb (value image F.bucket-count) (bucketCount (o .«slot_capacity»))), incompatible)
+-- 9. "B may be any power of two above slot_capacity, up to 4,194,304; a larger power of two is 2, any other B 1." (CR 10)
+unfoldable pub test9 : List ℕ → List (Bool × ℕ)
+test9 image =
+    (powerOfTwo (value image F.bucket-count) && ltb most-bucket-count (value image F.bucket-count), incompatible)
+    ∷ (
+      not (powerOfTwo (value image F.bucket-count) && ltb (value image F.slot-capacity) (value image F.bucket-count)),
+      needs-rebuild,
+    )
     ∷ []
 
 -- the total of an image, by its own header
@@ -114,7 +126,7 @@ test12 o image = (eqb (value image F.state) DIRTY && eqb (o .role) no-writer-kno
 unfoldable pub headerTests : Options → List ℕ → List (Bool × ℕ)
 headerTests o image =
     test1 o ++ test2 image ++ test3 image ++ test4 o image ++ test5 image ++ test6 image ++ test7 image ++ test8 o image
-    ++ test9 o image ++ test10 image ++ test11 image ++ test12 o image
+    ++ test9 image ++ test10 image ++ test11 image ++ test12 o image
 
 -- the header test's number: 0 where the image passes
 unfoldable pub headerTest : Options → List ℕ → ℕ

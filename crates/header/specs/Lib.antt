@@ -7,4 +7,5 @@ pub mod HeaderTest
 pub mod Shaped
 pub mod Counters
 pub mod Open
+pub mod Extent
 pub mod Bench

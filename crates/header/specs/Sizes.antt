@@ -2,7 +2,7 @@
 -- Assumes nothing.
 use Prim.Native.Nat.{ℕ, zero, suc, _+_, _*_, _/_, _^_}
 use mathlib.Core.Bool.{Bool, cond, _&&_}
-use lib.Dec.{leb}
+use lib.Dec.{eqb, leb}
 use Rattle.header.specs.declared.options.Options.{Options}
 
 abbrev pub most-key-size : ℕ
@@ -14,11 +14,24 @@ most-index-size = 256
 abbrev pub most-slot-capacity : ℕ
 most-slot-capacity = 1048576
 
--- "key_size 1 to 64, index_size 0 to 256, slot_capacity 1 to 1,048,576" (CR 5)
-unfoldable pub sizesAllowed : Options → Bool
-sizesAllowed o =
+abbrev pub most-bucket-count : ℕ
+most-bucket-count = 4194304
+
+-- "key_size 1 to 64, index_size 0 to 256, slot_capacity 1 to 1,048,576" (CR 5), and "Option capacity 0 now means 'as the
+-- header says'" (CR 10): the sizes allowed to open an image
+unfoldable pub sizesToOpen : Options → Bool
+sizesToOpen o =
     leb 1 (o .«key_size») && leb (o .«key_size») most-key-size && leb (o .«index_size») most-index-size
-    && leb 1 (o .«slot_capacity») && leb (o .«slot_capacity») most-slot-capacity
+    && leb (o .«slot_capacity») most-slot-capacity
+
+-- "create ... answers 7 to capacity 0" (CR 10): the sizes allowed to create one
+unfoldable pub sizesToCreate : Options → Bool
+sizesToCreate o = sizesToOpen o && leb 1 (o .«slot_capacity»)
+
+-- whether a header's capacity is as the option says: "Option capacity 0 now means 'as the header says', within 1 to 1,048,576"
+-- (CR 10)
+unfoldable pub capacityFits : ℕ → ℕ → Bool
+capacityFits option capacity = cond (eqb option 0) (leb 1 capacity && leb capacity most-slot-capacity) (eqb capacity option)
 
 -- the next multiple of 8
 unfoldable pub align8 : ℕ → ℕ

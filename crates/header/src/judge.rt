@@ -4,9 +4,9 @@ ghost use mathlib.Core.Path.{_≡_};
 ghost use mathlib.Core.List.{_++_};
 ghost use Prim.Native.Nat.{_≤_};
 ghost use lib.ListN.{length};
-ghost use Rattle.header.specs.Sizes.{sizesAllowed};
+ghost use Rattle.header.specs.Sizes.{sizesToOpen};
 ghost use Rattle.header.specs.FirstOf.{firstOf};
-ghost use Rattle.header.specs.HeaderTest.{test1, test3, test4, test5, test6, test7, test8, test9, test10, test11, test12, headerTest, layoutOf, shapeOf, judged};
+ghost use Rattle.header.specs.HeaderTest.{optionsTest, test1, createTest1, test3, test4, test5, test6, test7, test8, test9, test10, test11, test12, headerTest, layoutOf, shapeOf, judged};
 use crate::answer::DONE;
 use crate::answer::INVALID_INPUT;
 use crate::answer::refuse;
@@ -17,17 +17,32 @@ use crate::points;
 use crate::shape::Judged;
 use crate::shape::Layout;
 use crate::shape::Shape;
-use crate::sizes::sizes_allowed;
+use crate::sizes::sizes_to_create;
+use crate::sizes::sizes_to_open;
 use crate::state::HOLDS_THE_LOCK;
 
-// 1. Options outside the sizes, ordered above 1, or role above 2.
+// Options outside the sizes, ordered above 1, or role above 2.
+fn options_wrong(inside: bool, o: Options) -> u32
+    ensures { λ r. ⌜ r ≡ firstOf (optionsTest inside o) ⌝ }
+{
+    refuse(
+        !inside | (1 < o.ordered) | (HOLDS_THE_LOCK < o.role),
+        INVALID_INPUT,
+    )
+}
+
+// 1. The options of a call that opens an image.
 pub fn options_test(o: Options) -> u32
     ensures { λ r. ⌜ r ≡ firstOf (test1 o) ⌝ }
 {
-    refuse(
-        !sizes_allowed(o) | (1 < o.ordered) | (HOLDS_THE_LOCK < o.role),
-        INVALID_INPUT,
-    )
+    options_wrong(sizes_to_open(o), o)
+}
+
+// 1. The options of create.
+pub fn create_options_test(o: Options) -> u32
+    ensures { λ r. ⌜ r ≡ firstOf (createTest1 o) ⌝ }
+{
+    options_wrong(sizes_to_create(o), o)
 }
 
 // Tests 3 to 7: whether this is an SLC1 header that was written whole and may be used.
@@ -56,18 +71,18 @@ fn written_test(image: &[u8], o: Options) -> u32
 
 // Tests 8 to 12: whether the header fits the options, the rules and the image.
 fn fitting_test(image: &[u8], o: Options) -> u32
-    requires { ⌜ (256 ≤ length (now image)) × (sizesAllowed o ≡ true) ⌝ }
-    ensures { λ r. ⌜ r ≡ firstOf (test8 o (now (image .entry)) ++ (test9 o (now (image .entry)) ++ (test10 (now (image .entry)) ++ (test11 (now (image .entry)) ++ test12 o (now (image .entry)))))) ⌝ }
+    requires { ⌜ (256 ≤ length (now image)) × (sizesToOpen o ≡ true) ⌝ }
+    ensures { λ r. ⌜ r ≡ firstOf (test8 o (now (image .entry)) ++ (test9 (now (image .entry)) ++ (test10 (now (image .entry)) ++ (test11 (now (image .entry)) ++ test12 o (now (image .entry)))))) ⌝ }
 {
     let agreement = points::agreement_test(image, o);
     if agreement != DONE {
         return agreement;
     }
-    let buckets = points::buckets_test(image, o);
+    let buckets = points::buckets_test(image);
     if buckets != DONE {
         return buckets;
     }
-    let extent = points::extent_test(image, o);
+    let extent = points::extent_test(image);
     if extent != DONE {
         return extent;
     }

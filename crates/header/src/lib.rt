@@ -1,5 +1,6 @@
 // The SLC1 header: its fields, the sizes that follow from it, and the header test.
 pub mod answer;
+pub mod extent;
 pub mod fields;
 pub mod judge;
 pub mod open;

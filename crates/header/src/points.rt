@@ -1,11 +1,11 @@
 // The second to the twelfth point of the header test: each the number that it gives, or 0.
 ghost use mathlib.Core.Bool.{true};
 ghost use mathlib.Core.Path.{_≡_};
-ghost use Prim.Native.Nat.{_≤_};
+ghost use Prim.Native.Nat.{_^_, _≤_, _<_};
 ghost use lib.ListN.{length};
-ghost use Rattle.header.specs.Sizes.{sizesAllowed};
+ghost use Rattle.header.specs.Sizes.{sizesToOpen};
 ghost use Rattle.header.specs.FirstOf.{firstOf};
-ghost use Rattle.header.specs.HeaderTest.{test2, test3, test4, test5, test6, test7, test8, test9, test10, test11, test12};
+ghost use Rattle.header.specs.HeaderTest.{test2, test3, test4, test5, test6, test7, test8, test9, imageTotal, test10, test11, test12};
 use crate::answer::BUSY;
 use crate::answer::CREATE_IT;
 use crate::answer::DONE;
@@ -17,8 +17,9 @@ use crate::fields;
 use crate::fields::bytes_in;
 use crate::fields::read;
 use crate::options::Options;
-use crate::sizes::bucket_count;
+use crate::sizes::MOST_BUCKET_COUNT;
 use crate::sizes::buckets_offset;
+use crate::sizes::capacity_fits;
 use crate::sizes::power_of_two;
 use crate::sizes::slot_size;
 use crate::state;
@@ -95,13 +96,13 @@ pub fn invalidated_test(image: &[u8]) -> u32
 
 // 8. Sizes, user_version or ordered flag not as the options say.
 pub fn agreement_test(image: &[u8], o: Options) -> u32
-    requires { ⌜ (256 ≤ length (now image)) × (sizesAllowed o ≡ true) ⌝ }
+    requires { ⌜ (256 ≤ length (now image)) × (sizesToOpen o ≡ true) ⌝ }
     ensures { λ r. ⌜ r ≡ firstOf (test8 o (now (image .entry))) ⌝ }
 {
     let key = read(image, fields::KEY_SIZE) == o.key_size;
     let index = read(image, fields::INDEX_SIZE) == o.index_size;
     let slot = read(image, fields::SLOT_SIZE) == slot_size(o.key_size, o.index_size);
-    let capacity = read(image, fields::SLOT_CAPACITY) == o.slot_capacity;
+    let capacity = capacity_fits(o.slot_capacity, read(image, fields::SLOT_CAPACITY));
     let version = read(image, fields::USER_VERSION) == o.user_version;
     let ordered = read(image, fields::FLAGS) == o.ordered;
     refuse(
@@ -110,25 +111,23 @@ pub fn agreement_test(image: &[u8], o: Options) -> u32
     )
 }
 
-// 9. bucket_count below 2 or no power of two; another power of two than the rule's. Any other count than the rule's
-// is looked at closer.
-pub fn buckets_test(image: &[u8], o: Options) -> u32
-    requires { ⌜ (256 ≤ length (now image)) × (sizesAllowed o ≡ true) ⌝ }
-    ensures { λ r. ⌜ r ≡ firstOf (test9 o (now (image .entry))) ⌝ }
+// 9. bucket_count a power of two that is too large, or no power of two above slot_capacity.
+pub fn buckets_test(image: &[u8]) -> u32
+    requires { ⌜ 256 ≤ length (now image) ⌝ }
+    ensures { λ r. ⌜ r ≡ firstOf (test9 (now (image .entry))) ⌝ }
 {
     let count = read(image, fields::BUCKET_COUNT);
-    if count == bucket_count(o.slot_capacity) {
-        return DONE;
+    let power = power_of_two(count);
+    if power & (MOST_BUCKET_COUNT < count) {
+        return INCOMPATIBLE;
     }
-    if (count < 2) | !power_of_two(count) {
-        return NEEDS_REBUILD;
-    }
-    INCOMPATIBLE
+    let capacity = read(image, fields::SLOT_CAPACITY);
+    refuse(!(power & (capacity < count)), NEEDS_REBUILD)
 }
 
-// 10. An offset wrong, or a length other than the total: asked where the sizes and the bucket count are the rule's.
-pub fn extent_test(image: &[u8], o: Options) -> u32
-    requires { ⌜ (256 ≤ length (now image)) × (sizesAllowed o ≡ true) × (firstOf (test8 o (now image)) ≡ 0) × (firstOf (test9 o (now image)) ≡ 0) ⌝ }
+// 10. An offset wrong, or a length other than the total: asked where the sizes are small.
+pub fn extent_test(image: &[u8]) -> u32
+    requires { ⌜ (256 ≤ length (now image)) × (imageTotal (now image) < 2 ^ 64) ⌝ }
     ensures { λ r. ⌜ r ≡ firstOf (test10 (now (image .entry))) ⌝ }
 {
     let slots = read(image, fields::SLOTS_OFFSET);

@@ -2,7 +2,7 @@
 ghost use mathlib.Core.Bool.{true};
 ghost use mathlib.Core.Path.{_≡_};
 ghost use Prim.Native.Nat.{_+_, _^_, _≤_, _<_};
-ghost use Rattle.header.specs.Sizes.{align8 as aligned, slotSize, powerFrom, bucketCount, bucketsOffset, totalSize, sizesAllowed, most-key-size, most-index-size, most-slot-capacity};
+ghost use Rattle.header.specs.Sizes.{align8 as aligned, slotSize, powerFrom, bucketCount, bucketsOffset, totalSize, sizesToOpen, sizesToCreate, capacityFits, most-key-size, most-index-size, most-slot-capacity};
 ghost use Rattle.header.specs.HeaderTest.{powerOfTwo};
 use crate::options::Options;
 
@@ -10,17 +10,35 @@ const MOST_KEY_SIZE: u64 = 64;
 
 const MOST_INDEX_SIZE: u64 = 256;
 
-const MOST_SLOT_CAPACITY: u64 = 1048576;
+pub const MOST_SLOT_CAPACITY: u64 = 1048576;
 
-// Whether the sizes of the options are allowed.
-pub fn sizes_allowed(o: Options) -> bool
-    ensures { λ r. ⌜ r ≡ sizesAllowed o ⌝ }
+pub const MOST_BUCKET_COUNT: u64 = 4194304;
+
+// Whether an image may be opened with the sizes of the options. Capacity 0 is what the header says.
+pub fn sizes_to_open(o: Options) -> bool
+    ensures { λ r. ⌜ r ≡ sizesToOpen o ⌝ }
 {
     (1 <= o.key_size)
         & (o.key_size <= MOST_KEY_SIZE)
         & (o.index_size <= MOST_INDEX_SIZE)
-        & (1 <= o.slot_capacity)
         & (o.slot_capacity <= MOST_SLOT_CAPACITY)
+}
+
+// Whether one may be created with them.
+pub fn sizes_to_create(o: Options) -> bool
+    ensures { λ r. ⌜ r ≡ sizesToCreate o ⌝ }
+{
+    sizes_to_open(o) & (1 <= o.slot_capacity)
+}
+
+// Whether a header's capacity is as the option says; option 0 takes any that an image may have.
+pub fn capacity_fits(option: u64, capacity: u64) -> bool
+    ensures { λ r. ⌜ r ≡ capacityFits option capacity ⌝ }
+{
+    if option == 0 {
+        return (1 <= capacity) & (capacity <= MOST_SLOT_CAPACITY);
+    }
+    capacity == option
 }
 
 // The next multiple of 8.
@@ -77,9 +95,9 @@ pub fn buckets_offset(slot_capacity: u64, slot_size: u64) -> u64
     256 + slot_capacity * slot_size
 }
 
-// The size of a whole image: the header, the slots and the buckets.
+// The size of a whole image as create makes it: the header, the slots and the buckets.
 pub fn total_size(o: Options) -> u64
-    requires { ⌜ sizesAllowed o ≡ true ⌝ }
+    requires { ⌜ sizesToCreate o ≡ true ⌝ }
     ensures { λ r. ⌜ r ≡ totalSize o ⌝ }
 {
     let slot = slot_size(o.key_size, o.index_size);

@@ -2,6 +2,7 @@
 pub mod age;
 pub mod check;
 pub mod digest;
+pub mod extent;
 pub mod list;
 pub mod lookup;
 pub mod open;

@@ -10,7 +10,7 @@ use Rattle.header.specs.declared.shape.Shape.{Shape}
 use Rattle.header.specs.Fields as F
 use Rattle.header.specs.FirstOf.{firstOf}
 use Rattle.header.specs.State.{withRole}
-use Rattle.header.specs.HeaderTest.{test1, shapeOf}
+use Rattle.header.specs.HeaderTest.{createTest1, shapeOf}
 use Rattle.image.proofs.FullCheck.{passes-whole}
 use Rattle.writing.specs.Create.{fresh}
 use Rattle.writing.proofs.OneField.{Fits}
@@ -19,7 +19,7 @@ use Rattle.writing.proofs.FreshTable.{fresh-shape, fresh-passes}
 use Rattle.maps.specs.Map.{mapOf}
 use Rattle.maps.proofs.MapSlots.{map-lacks}
 
-pub fresh-map : (o : Options) → firstOf (test1 o) ≡ 0 → Fits F.user-version (o .«user_version») → (k : List ℕ)
+pub fresh-map : (o : Options) → firstOf (createTest1 o) ≡ 0 → Fits F.user-version (o .«user_version») → (k : List ℕ)
     → mapOf (shapeOf (fresh o)) (fresh o) k ≡ none
 fresh-map o first version k =
     let image = fresh o in

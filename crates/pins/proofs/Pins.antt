@@ -12,11 +12,11 @@ use Rattle.digests.specs.Fnv.{fnvFrom, fnv1a64}
 use Rattle.digests.specs.Crc.{crcBit, crcBits, crcFrom, crc32c}
 use Rattle.probing.specs.Counting.{allTo}
 use Rattle.header.specs.FirstOf.{firstOf}
-use Rattle.header.specs.HeaderTest.{test1}
-use Rattle.header.specs.Sizes.{sizesAllowed, align8, slotSize, powerFrom, bucketCount}
+use Rattle.header.specs.HeaderTest.{test1, createTest1}
+use Rattle.header.specs.Sizes.{sizesToOpen, sizesToCreate, align8, slotSize, powerFrom, bucketCount}
 use Rattle.header.proofs.SizeLaws.{bucket-count-power, bucket-count-low, bucket-count-high}
 use Rattle.listing.specs.Match.{bitAt, agrees}
-use Rattle.host.specs.Places.{placeIn, keyPlace, indexPlace}
+use Rattle.host.specs.Places.{totalOf, slotsFor, placeIn, keyPlace, indexPlace}
 use Rattle.host.specs.Results.{reportOf, wordOf, lookupReport, checkReport, listedReport, listingReport}
 use Rattle.pins.specs.Pins.{Pins}
 
@@ -37,7 +37,7 @@ smallest capacity k h =
     ]
 
 pub pins : Pins
-unfolding word bytesOf put below signed fnvFrom fnv1a64 crcBit crcBits crcFrom crc32c allTo firstOf test1 sizesAllowed align8 slotSize bitAt agrees placeIn keyPlace indexPlace reportOf wordOf lookupReport checkReport listedReport listingReport
+unfolding word bytesOf put below signed fnvFrom fnv1a64 crcBit crcBits crcFrom crc32c allTo firstOf test1 createTest1 sizesToOpen sizesToCreate align8 slotSize bitAt agrees totalOf slotsFor placeIn keyPlace indexPlace reportOf wordOf lookupReport checkReport listedReport listingReport
 pins =
     record {
       word-of = refl;
@@ -58,6 +58,9 @@ pins =
       smallest = smallest;
       key-place = refl;
       index-place = refl;
+      last-place = refl;
+      place-past = refl;
+      total-0 = refl;
       offset-bits = refl;
       offset-bits-not = refl;
       results-found = refl;

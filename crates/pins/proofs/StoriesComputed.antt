@@ -12,8 +12,8 @@ use Rattle.probing.specs.Change.{placeFrom, place}
 use Rattle.header.specs.Fields.{bytesIn, value}
 use Rattle.header.specs.FirstOf.{firstOf}
 use Rattle.header.specs.Counters.{withCounters, withSlots}
-use Rattle.header.specs.Sizes.{sizesAllowed, align8, slotSize, powerFrom, bucketCount, bucketsOffset, total, totalSize}
-use Rattle.header.specs.HeaderTest.{powerOfTwo, test1, test2, test3, test4, test5, test6, test7, test8, test9, imageTotal, test10, test11, test12, headerTests, headerTest, layoutOf, shapeOf}
+use Rattle.header.specs.Sizes.{sizesToOpen, sizesToCreate, capacityFits, align8, slotSize, powerFrom, bucketCount, bucketsOffset, total, totalSize}
+use Rattle.header.specs.HeaderTest.{powerOfTwo, test1, createTest1, test2, test3, test4, test5, test6, test7, test8, test9, imageTotal, test10, test11, test12, headerTests, headerTest, layoutOf, shapeOf}
 use Rattle.image.specs.Table as T
 use Rattle.image.specs.Table.{slotAt, bucketAt, metaOf, keyOf, bucketFrom, bucketOf, tableOf}
 use Rattle.image.specs.Lookup.{probeOf, isLive, lookupIn, lookupOf}
@@ -33,7 +33,7 @@ use Rattle.pins.proofs.MostRecords.{most-records-pass}
 
 -- all that is computed with
 computed : Unit {0}
-unfolding part word bytesOf put same allZero crcBit crcBits crcFrom crc32c headerCrc fnvFrom fnv1a64 sumTo countTo allTo liveCount fullCount tombstoneCount examine probeFrom probe bucketsRight metasRight eachFound countsEqual checks placeFrom place bytesIn value firstOf sizesAllowed align8 slotSize powerFrom bucketCount bucketsOffset total totalSize powerOfTwo test1 test2 test3 test4 test5 test6 test7 test8 test9 imageTotal test10 test11 test12 headerTests headerTest layoutOf shapeOf slotAt T.keyAt bucketAt metaOf keyOf bucketFrom bucketOf tableOf probeOf isLive passes withField withFields sealed createTests freshFields fresh createOf writingTests cleanTest generationTest inState beginOf checkpointOf published userTests removed indexed appended counted recordCount recordAt metaIn keyIn keyPadding revisionAndIndex indexPadding malformed someMalformed batchWrong recordKey decides isNew newCount rank firstTo newAt fallsBehind soundTests roomTests furtherTests commitTests acted actedTo afterLive withCounters withSlots afterNew tidied recounted settled committed commitOf invalidateTests invalidateOf withUserData setUserFieldsOf rebuiltTo rebuilt neverFall below lookupIn lookupOf
+unfolding part word bytesOf put same allZero crcBit crcBits crcFrom crc32c headerCrc fnvFrom fnv1a64 sumTo countTo allTo liveCount fullCount tombstoneCount examine probeFrom probe bucketsRight metasRight eachFound countsEqual checks placeFrom place bytesIn value firstOf sizesToOpen sizesToCreate capacityFits align8 slotSize powerFrom bucketCount bucketsOffset total totalSize powerOfTwo test1 createTest1 test2 test3 test4 test5 test6 test7 test8 test9 imageTotal test10 test11 test12 headerTests headerTest layoutOf shapeOf slotAt T.keyAt bucketAt metaOf keyOf bucketFrom bucketOf tableOf probeOf isLive passes withField withFields sealed createTests freshFields fresh createOf writingTests cleanTest generationTest inState beginOf checkpointOf published userTests removed indexed appended counted recordCount recordAt metaIn keyIn keyPadding revisionAndIndex indexPadding malformed someMalformed batchWrong recordKey decides isNew newCount rank firstTo newAt fallsBehind soundTests roomTests furtherTests commitTests acted actedTo afterLive withCounters withSlots afterNew tidied recounted settled committed commitOf invalidateTests invalidateOf withUserData setUserFieldsOf rebuiltTo rebuilt neverFall below lookupIn lookupOf
 computed = tt
 
 pub steps : Steps
@@ -90,6 +90,8 @@ header-refusals =
       key-65 = refl;
       index-257 = refl;
       capacity-0 = refl;
+      create-capacity-0 = refl;
+      create-capacity-1 = refl;
       capacity-1048577 = refl;
       ordered-2 = refl;
       role-3 = refl;
@@ -115,11 +117,23 @@ header-refusals =
       another-index = refl;
       another-slot = refl;
       another-capacity = refl;
+      as-it-says = refl;
+      says-0 = refl;
+      says-1048576 = refl;
+      says-1048577 = refl;
       another-version = refl;
       another-order = refl;
+      buckets-0 = refl;
       buckets-1 = refl;
+      buckets-2 = refl;
+      buckets-4 = refl;
       buckets-6 = refl;
       buckets-16 = refl;
+      buckets-4194304 = refl;
+      buckets-4194305 = refl;
+      buckets-8388608 = refl;
+      buckets-most = refl;
+      buckets-below = refl;
       slots-offset = refl;
       buckets-offset = refl;
       shorter = refl;

@@ -13,7 +13,8 @@ use Rattle.digests.specs.Crc.{crc32c}
 use Rattle.header.specs.Fields.{SLC1}
 use Rattle.header.specs.Sizes.{most-slot-capacity, bucketCount}
 use Rattle.listing.specs.Match.{agrees}
-use Rattle.host.specs.Places.{keyPlace, indexPlace}
+use Rattle.host.specs.Options.{optionsOf}
+use Rattle.host.specs.Places.{totalOf, keyPlace, indexPlace}
 use Rattle.host.specs.Results.{reported, lookupReport, checkReport, reportedListing, listingReport}
 use Rattle.image.specs.declared.check.Checked.{Checked}
 use Rattle.image.specs.declared.lookup.Lookup.{Lookup}
@@ -60,6 +61,10 @@ pub record Pins : Type 0 where
   -- revision
   pub key-place : keyPlace bench 1 ≡ 320
   pub index-place : indexPlace bench 1 ≡ 344
+  -- with capacity 0, for any slot that an image may have; the total is not known (CR 10)
+  pub last-place : keyPlace (optionsOf 12 20 0 1 0 0) 1048575 ≡ 58720464
+  pub place-past : keyPlace (optionsOf 12 20 0 1 0 0) 1048576 ≡ 0
+  pub total-0 : totalOf (optionsOf 12 20 0 1 0 0) ≡ 0
   -- "a number of bits, most significant first, from a byte offset in the key"
   pub offset-bits : agrees 1 3 (0xA0 ∷ []) (0xFF ∷ 0xBF ∷ []) ≡ true
   pub offset-bits-not : agrees 1 3 (0xA0 ∷ []) (0xA0 ∷ 0x1F ∷ []) ≡ false

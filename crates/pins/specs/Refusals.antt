@@ -10,7 +10,7 @@ use Rattle.numbers.specs.Bytes.{put}
 use Rattle.header.specs.declared.shape.Shape.{Shape}
 use Rattle.header.specs.FirstOf.{firstOf}
 use Rattle.header.specs.State.{withRole}
-use Rattle.header.specs.HeaderTest.{test1, test2, test3, test4, test5, test6, test7, test8, test9, test10, test11, test12, shapeOf}
+use Rattle.header.specs.HeaderTest.{test1, createTest1, test2, test3, test4, test5, test6, test7, test8, test9, test10, test11, test12, shapeOf}
 use Rattle.image.specs.Check.{passes}
 use Rattle.image.specs.Lookup.{lookupIn}
 use Rattle.writing.specs.State.{cleanTest, generationTest}
@@ -29,11 +29,14 @@ with at bytes = put image6 at bytes
 
 -- The header test, test by test: the number that each gives, where it is wrong in one thing; the story's images pass them all.
 pub record HeaderRefusals : Type 0 where
-  -- "1. Options outside the sizes, ordered above 1, or role above 2: 7."
+  -- "1. Options outside the sizes, ordered above 1, or role above 2: 7."; "Option capacity 0 now means 'as the header says'", but
+  -- "create ... answers 7 to capacity 0" (CR 10)
   pub key-0 : firstOf (test1 (optionsOf 0 1 3 7 0 0)) ≡ 7
   pub key-65 : firstOf (test1 (optionsOf 65 1 3 7 0 0)) ≡ 7
   pub index-257 : firstOf (test1 (optionsOf 1 257 3 7 0 0)) ≡ 7
-  pub capacity-0 : firstOf (test1 (optionsOf 1 1 0 7 0 0)) ≡ 7
+  pub capacity-0 : firstOf (test1 (optionsOf 1 1 0 7 0 0)) ≡ 0
+  pub create-capacity-0 : firstOf (createTest1 (optionsOf 1 1 0 7 0 0)) ≡ 7
+  pub create-capacity-1 : firstOf (createTest1 (optionsOf 1 1 1 7 0 0)) ≡ 0
   pub capacity-1048577 : firstOf (test1 (optionsOf 1 1 1048577 7 0 0)) ≡ 7
   pub ordered-2 : firstOf (test1 (optionsOf 1 1 3 7 2 0)) ≡ 7
   pub role-3 : firstOf (test1 (optionsOf 1 1 3 7 0 3)) ≡ 7
@@ -66,12 +69,26 @@ pub record HeaderRefusals : Type 0 where
   pub another-index : firstOf (test8 (optionsOf 1 2 3 7 0 0) image6) ≡ 2
   pub another-slot : firstOf (test8 reader (with 0x14 (40 ∷ []))) ≡ 2
   pub another-capacity : firstOf (test8 (optionsOf 1 1 4 7 0 0) image6) ≡ 2
+  -- and with capacity 0 what the header says, "within 1 to 1,048,576, else 2" (CR 10)
+  pub as-it-says : firstOf (test8 (optionsOf 1 1 0 7 0 0) image6) ≡ 0
+  pub says-0 : firstOf (test8 (optionsOf 1 1 0 7 0 0) (with 0x20 (0 ∷ []))) ≡ 2
+  pub says-1048576 : firstOf (test8 (optionsOf 1 1 0 7 0 0) (with 0x20 (0 ∷ 0 ∷ 16 ∷ []))) ≡ 0
+  pub says-1048577 : firstOf (test8 (optionsOf 1 1 0 7 0 0) (with 0x20 (1 ∷ 0 ∷ 16 ∷ []))) ≡ 2
   pub another-version : firstOf (test8 (optionsOf 1 1 3 8 0 0) image6) ≡ 2
   pub another-order : firstOf (test8 (optionsOf 1 1 3 7 1 0) image6) ≡ 2
-  -- "9. bucket_count below 2 or no power of two: 1. Another power of two than the rule's: 2."
-  pub buckets-1 : firstOf (test9 reader (with 0x48 (1 ∷ []))) ≡ 1
-  pub buckets-6 : firstOf (test9 reader (with 0x48 (6 ∷ []))) ≡ 1
-  pub buckets-16 : firstOf (test9 reader (with 0x48 (16 ∷ []))) ≡ 2
+  -- 9. "B may be any power of two above slot_capacity, up to 4,194,304; a larger power of two is 2, any other B 1." (CR 10)
+  pub buckets-0 : firstOf (test9 (with 0x48 (0 ∷ []))) ≡ 1
+  pub buckets-1 : firstOf (test9 (with 0x48 (1 ∷ []))) ≡ 1
+  pub buckets-2 : firstOf (test9 (with 0x48 (2 ∷ []))) ≡ 1
+  pub buckets-4 : firstOf (test9 (with 0x48 (4 ∷ []))) ≡ 0
+  pub buckets-6 : firstOf (test9 (with 0x48 (6 ∷ []))) ≡ 1
+  pub buckets-16 : firstOf (test9 (with 0x48 (16 ∷ []))) ≡ 0
+  pub buckets-4194304 : firstOf (test9 (with 0x48 (0 ∷ 0 ∷ 64 ∷ []))) ≡ 0
+  pub buckets-4194305 : firstOf (test9 (with 0x48 (1 ∷ 0 ∷ 64 ∷ []))) ≡ 1
+  pub buckets-8388608 : firstOf (test9 (with 0x48 (0 ∷ 0 ∷ 128 ∷ []))) ≡ 2
+  pub buckets-most : firstOf (test9 (with 0x48 (0 ∷ 0 ∷ 0 ∷ 0 ∷ 0 ∷ 0 ∷ 0 ∷ 128 ∷ []))) ≡ 2
+  -- whatever the capacity: a larger power of two that is not above it
+  pub buckets-below : firstOf (test9 (put (with 0x48 (0 ∷ 0 ∷ 128 ∷ [])) 0x20 (0 ∷ 0 ∷ 0 ∷ 1 ∷ []))) ≡ 2
   -- "10. An offset wrong, or a length other than the total: 1." (CR 8)
   pub slots-offset : firstOf (test10 (with 0x60 (8 ∷ []))) ≡ 1
   pub buckets-offset : firstOf (test10 (with 0x68 (0x68 ∷ []))) ≡ 1

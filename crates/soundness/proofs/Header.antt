@@ -91,9 +91,9 @@ module _ (o : Options) (start : List ℕ) (holds : Holds o start) (n : ℕ) (ima
   eighth′ role =
       rw (v F.key-size tt tt, v F.index-size tt tt, v F.slot-size tt tt, v F.slot-capacity tt tt, v F.user-version tt tt, v F.flags tt tt) (holds .eighth)
 
-  ninth′ : (role : ℕ) → firstOf (test9 (withRole o role) after) ≡ 0
+  ninth′ : firstOf (test9 after) ≡ 0
   unfolding test9
-  ninth′ role = rw (v F.bucket-count tt tt) (holds .ninth)
+  ninth′ = rw (v F.bucket-count tt tt, v F.slot-capacity tt tt) (holds .ninth)
 
   tenth′ : firstOf (test10 after) ≡ 0
   unfolding test10 imageTotal
@@ -145,7 +145,7 @@ module _ (o : Options) (start : List ℕ) (holds : Holds o start) (n : ℕ) (ima
           fifth = fifth′;
           sixth = sixth′;
           eighth = eighth′ role;
-          ninth = ninth′ role;
+          ninth = ninth′;
           tenth = tenth′;
           eleventh = eleventh′;
         })

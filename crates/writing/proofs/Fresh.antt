@@ -13,11 +13,11 @@ use Rattle.header.specs.Fields as F
 use Rattle.header.specs.Fields.{fieldOf, bytesIn, value}
 use Rattle.header.specs.FirstOf.{firstOf}
 use Rattle.header.specs.State.{withRole}
-use Rattle.header.specs.HeaderTest.{test1, headerTest}
+use Rattle.header.specs.HeaderTest.{createTest1, headerTest}
 use Rattle.header.specs.Open.{userFields, noFields}
 use Rattle.header.specs.Sizes.{totalSize}
-use Rattle.header.proofs.Allowed.{Allowed, allowed, offset-fits}
-use Rattle.header.proofs.PassedTests.{allowed-passed, ordered-passed}
+use Rattle.header.proofs.Allowed.{Allowed, offset-fits}
+use Rattle.header.proofs.PassedTests.{create-sized, create-ordered}
 use Rattle.header.proofs.SizeLaws.{slot-size-limit, bucket-count-high}
 use Rattle.writing.specs.Write.{withFields}
 use Rattle.writing.specs.Create.{freshFields, fresh}
@@ -95,16 +95,14 @@ module _ (o : Options) where
   unfolding fresh
   fresh-crc = seal-crc (unsealed o) unsealed-long unsealed-bytes
 
-  module _ (first : firstOf (test1 o) ≡ 0) (version : Fits F.user-version (o .«user_version»)) where
-    sizes : Allowed o
-    sizes = allowed o (allowed-passed o first)
-
+  module _ (first : firstOf (createTest1 o) ≡ 0) (version : Fits F.user-version (o .«user_version»)) where
     fitting : Fitting (freshFields o)
     unfolding freshFields
     fitting =
-        let slot = slot-size-limit (o .«key_size») (o .«index_size») (sizes .key-high) (sizes .index-high) in
-        let h : Allowed o = sizes in
-        (lit< tt, (lit< tt, (lit< tt, (omega arith, (omega arith, (omega arith, (lit< tt, (omega (arith, ordered-passed o first), (omega arith, (version, (omega (arith, bucket-count-high (o .«slot_capacity») (h .capacity-low)), (lit< tt, (omega (arith, offset-fits o h), tt)))))))))))))
+        let created = create-sized o first in
+        let h : Allowed o = created .sizes in
+        let slot = slot-size-limit (o .«key_size») (o .«index_size») (h .key-high) (h .index-high) in
+        (lit< tt, (lit< tt, (lit< tt, (omega arith, (omega arith, (omega arith, (lit< tt, (omega (arith, create-ordered o first), (omega arith, (version, (omega (arith, bucket-count-high (o .«slot_capacity») (created .capacity-low)), (lit< tt, (omega (arith, offset-fits o h), tt)))))))))))))
 
     -- what a fresh header says
     pub fresh-value : (m : ℕ) → T (apart m F.header-crc32c) → value (fresh o) m ≡ after (freshFields o) m 0

@@ -15,7 +15,7 @@ use Rattle.header.specs.Fields as F
 use Rattle.header.specs.Fields.{value}
 use Rattle.header.specs.FirstOf.{firstOf}
 use Rattle.header.specs.State.{CLEAN}
-use Rattle.header.specs.HeaderTest.{test1, layoutOf, shapeOf}
+use Rattle.header.specs.HeaderTest.{createTest1, layoutOf, shapeOf}
 use Rattle.header.specs.Sizes.{slotSize, bucketCount, bucketsOffset, total, totalSize}
 use Rattle.image.specs.Check.{passes}
 use Rattle.image.specs.Table.{bucketAt, bucketFrom, bucketOf, tableOf}
@@ -68,7 +68,7 @@ empty-checks t ordered h e =
     let tombstones : countTo (t .B) (λ b. isTombstone (t .bucket b)) ≡ 0 = count-none (t .B) {p = λ b. isTombstone (t .bucket b)} (λ b l. rw (e b l) refl) in
     rw (right, full, tombstones, h) (or-true ordered)
 
-module _ (o : Options) (first : firstOf (test1 o) ≡ 0) (version : Fits F.user-version (o .«user_version»)) where
+module _ (o : Options) (first : firstOf (createTest1 o) ≡ 0) (version : Fits F.user-version (o .«user_version»)) where
   v : (m : ℕ) → T (apart m F.header-crc32c) → value (fresh o) m ≡ after (freshFields o) m 0
   v = fresh-value o first version
 

@@ -1,10 +1,11 @@
 -- An image whose header says what a fresh one says passes every test of the header test but those of the state.
 -- Assumes nothing.
 use Prim.Native.Nat.{ℕ, _+_, _*_, _≤_}
+use mathlib.Core.Bool.{true}
 use mathlib.Core.Path.{_≡_, refl}
 use mathlib.Core.List.{List}
 use native.Mathlib.Omega.{arith}
-use borrow.Author.Tests.{eq-eqb, ne-eqb, le-ltb, le-leb}
+use borrow.Author.Tests.{eq-eqb, ne-eqb, le-ltb, lt-ltb, le-leb}
 use lib.Dec.{T}
 use lib.ListN.{length, replicate}
 use Rattle.digests.specs.Crc.{headerCrc}
@@ -13,24 +14,26 @@ use Rattle.header.specs.Fields as F
 use Rattle.header.specs.Fields.{bytesIn, value}
 use Rattle.header.specs.FirstOf.{firstOf}
 use Rattle.header.specs.State.{withRole}
-use Rattle.header.specs.HeaderTest.{test1, test2, test3, test4, test5, test6, test8, test9, imageTotal, test10, test11}
-use Rattle.header.specs.Sizes.{slotSize, bucketCount, bucketsOffset, totalSize}
-use Rattle.header.proofs.Allowed.{allowed}
-use Rattle.header.proofs.Power.{power-of-power}
-use Rattle.header.proofs.PassedTests.{allowed-passed, ordered-passed}
-use Rattle.header.proofs.SizeLaws.{bucket-count-two}
+use Rattle.header.specs.HeaderTest.{createTest1, test2, test3, test4, test5, test6, test8, test9, imageTotal, test10, test11}
+use Rattle.header.specs.Sizes.{most-bucket-count, capacityFits, slotSize, bucketCount, bucketsOffset, totalSize}
+use Rattle.header.proofs.PassedTests.{create-sized, create-ordered, create-opens}
+use Rattle.header.proofs.SizeLaws.{bucket-count-is-power, bucket-count-high, bucket-count-room}
 use Rattle.writing.specs.Create.{freshFields}
 use Rattle.writing.proofs.OneField.{apart}
 use Rattle.writing.proofs.FieldList.{after}
 use Rattle.writing.proofs.Tests.{Holds}
-use Rattle.writing.proofs.Lasting.{any-role}
 use Rattle.writing.proofs.Zeros.{all-zeros}
 use Rattle.writing.proofs.Making.{total-low}
 
 abbrev offset : Options → ℕ
 offset o = bucketsOffset (o .«slot_capacity») (slotSize (o .«key_size») (o .«index_size»))
 
-module _ (o : Options) (image : List ℕ) (first : firstOf (test1 o) ≡ 0) (v : (m : ℕ) → T (apart m F.header-crc32c) → value image m ≡ after (freshFields o) m 0) (size : length image ≡ totalSize o) where
+-- a capacity that an image may have fits an option that gives it
+own-capacity : (capacity : ℕ) → 1 ≤ capacity → capacityFits capacity capacity ≡ true
+unfolding capacityFits
+own-capacity capacity low = rw (ne-eqb capacity 0 (λ e. omega arith), eq-eqb capacity capacity refl) refl
+
+module _ (o : Options) (image : List ℕ) (first : firstOf (createTest1 o) ≡ 0) (v : (m : ℕ) → T (apart m F.header-crc32c) → value image m ≡ after (freshFields o) m 0) (size : length image ≡ totalSize o) where
   second : firstOf (test2 image) ≡ 0
   unfolding test2 firstOf
   second =
@@ -51,19 +54,20 @@ module _ (o : Options) (image : List ℕ) (first : firstOf (test1 o) ≡ 0) (v :
 
   sixth : bytesIn image F.reserved ≡ replicate 64 0 → firstOf (test6 image) ≡ 0
   unfolding test6 firstOf freshFields
-  sixth e = rw (v F.flags tt, le-ltb 1 (o .ordered) (ordered-passed o first), e, all-zeros 64, v F.state tt) refl
+  sixth e = rw (v F.flags tt, le-ltb 1 (o .ordered) (create-ordered o first), e, all-zeros 64, v F.state tt) refl
 
   eighth : (role : ℕ) → firstOf (test8 (withRole o role) image) ≡ 0
   unfolding test8 firstOf freshFields
   eighth role =
-      rw (v F.key-size tt, v F.index-size tt, v F.slot-size tt, v F.slot-capacity tt, v F.user-version tt, v F.flags tt, eq-eqb (o .«key_size») (o .«key_size») refl, eq-eqb (o .«index_size») (o .«index_size») refl, eq-eqb (slotSize (o .«key_size») (o .«index_size»)) (slotSize (o .«key_size») (o .«index_size»)) refl, eq-eqb (o .«slot_capacity») (o .«slot_capacity») refl, eq-eqb (o .«user_version») (o .«user_version») refl, eq-eqb (o .ordered) (o .ordered) refl) refl
+      rw (v F.key-size tt, v F.index-size tt, v F.slot-size tt, v F.slot-capacity tt, v F.user-version tt, v F.flags tt, eq-eqb (o .«key_size») (o .«key_size») refl, eq-eqb (o .«index_size») (o .«index_size») refl, eq-eqb (slotSize (o .«key_size») (o .«index_size»)) (slotSize (o .«key_size») (o .«index_size»)) refl, own-capacity (o .«slot_capacity») (create-sized o first .capacity-low), eq-eqb (o .«user_version») (o .«user_version») refl, eq-eqb (o .ordered) (o .ordered) refl) refl
 
-  ninth : (role : ℕ) → firstOf (test9 (withRole o role) image) ≡ 0
-  unfolding test9 firstOf freshFields bucketCount
-  ninth role =
-      let h = allowed o (allowed-passed o first) in
-      let n : ℕ = bucketCount (o .«slot_capacity») in
-      rw (v F.bucket-count tt, le-ltb n 2 (bucket-count-two (o .«slot_capacity») (h .capacity-low) (h .capacity-high)), power-of-power (2 * o .«slot_capacity»), eq-eqb n n refl) refl
+  ninth : firstOf (test9 image) ≡ 0
+  unfolding test9 firstOf freshFields
+  ninth =
+      let h = create-sized o first in
+      let c : ℕ = o .«slot_capacity» in
+      let most : bucketCount c ≤ most-bucket-count = omega (arith, bucket-count-high c (h .capacity-low), h .sizes .capacity-high) in
+      rw (v F.bucket-count tt, v F.slot-capacity tt, bucket-count-is-power c, le-ltb most-bucket-count (bucketCount c) most, lt-ltb c (bucketCount c) (bucket-count-room c (h .capacity-low) (h .sizes .capacity-high))) refl
 
   tenth : firstOf (test10 image) ≡ 0
   unfolding test10 imageTotal firstOf freshFields totalSize
@@ -77,14 +81,14 @@ module _ (o : Options) (image : List ℕ) (first : firstOf (test1 o) ≡ 0) (v :
   pub fresh-holds : value image F.header-crc32c ≡ headerCrc image → bytesIn image F.reserved ≡ replicate 64 0 → (role : ℕ) → role ≤ 2 → Holds (withRole o role) image
   fresh-holds crc reserved role low =
       record {
-        first = any-role o role low first;
+        first = create-opens o first role low;
         second = second;
         third = third;
         fourth = fourth role;
         fifth = fifth crc;
         sixth = sixth reserved;
         eighth = eighth role;
-        ninth = ninth role;
+        ninth = ninth;
         tenth = tenth;
         eleventh = eleventh;
       }

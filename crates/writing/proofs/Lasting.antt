@@ -16,7 +16,7 @@ use Rattle.header.specs.Fields.{bytesIn, value}
 use Rattle.header.specs.FirstOf.{firstOf}
 use Rattle.header.specs.State.{withRole}
 use Rattle.header.specs.HeaderTest.{test1, test2, test3, test4, test5, test6, test8, test9, imageTotal, test10, test11, headerTest}
-use Rattle.header.specs.Sizes.{sizesAllowed}
+use Rattle.header.specs.Sizes.{sizesToOpen}
 use Rattle.header.proofs.Firsts.{fails, neither}
 use Rattle.writing.specs.Write.{withFields, sealed}
 use Rattle.writing.proofs.OneField.{apart}
@@ -26,9 +26,9 @@ use Rattle.writing.proofs.Tests.{Holds, stateTests, header-by-state}
 
 -- test 1 does not ask which of the three roles it is
 pub any-role : (o : Options) (role : ℕ) → role ≤ 2 → firstOf (test1 o) ≡ 0 → firstOf (test1 (withRole o role)) ≡ 0
-unfolding test1 sizesAllowed firstOf
+unfolding test1 sizesToOpen firstOf
 any-role o role low z =
-    let other : Bool = not (sizesAllowed o) || ltb 1 (o .ordered) in
+    let other : Bool = not (sizesToOpen o) || ltb 1 (o .ordered) in
     let p = neither other (ltb 2 (o .role)) (fails (other || ltb 2 (o .role)) 6 z) .0 in
     rw (p, le-ltb 2 role low) refl
 
@@ -103,9 +103,9 @@ module _ (o : Options) (image image′ : List ℕ) (kept : Kept image image′) 
   eighth′ role =
       rw (v F.key-size tt, v F.index-size tt, v F.slot-size tt, v F.slot-capacity tt, v F.user-version tt, v F.flags tt) (holds .eighth)
 
-  ninth′ : (role : ℕ) → firstOf (test9 (withRole o role) image′) ≡ 0
+  ninth′ : firstOf (test9 image′) ≡ 0
   unfolding test9
-  ninth′ role = rw (v F.bucket-count tt) (holds .ninth)
+  ninth′ = rw (v F.bucket-count tt, v F.slot-capacity tt) (holds .ninth)
 
   tenth′ : firstOf (test10 image′) ≡ 0
   unfolding test10 imageTotal
@@ -130,7 +130,7 @@ module _ (o : Options) (image image′ : List ℕ) (kept : Kept image image′) 
         fifth = fifth′ crc;
         sixth = sixth′ state;
         eighth = eighth′ role;
-        ninth = ninth′ role;
+        ninth = ninth′;
         tenth = tenth′;
         eleventh = eleventh′;
       })

@@ -13,7 +13,7 @@ use Rattle.numbers.specs.Bytes.{put}
 use Rattle.header.specs.declared.options.Options.{Options}
 use Rattle.header.specs.Answer.{too-short}
 use Rattle.header.specs.FirstOf.{firstOf}
-use Rattle.header.specs.HeaderTest.{test1}
+use Rattle.header.specs.HeaderTest.{createTest1}
 use Rattle.header.specs.Sizes.{bucketsOffset, total, totalSize}
 use Rattle.writing.specs.Write.{withFields, sealed}
 use Rattle.writing.specs.Create.{createTests, freshFields, fresh, createOf}
@@ -54,12 +54,12 @@ made o buffer {a = a} {d = d} t ea eb ec ed ee =
     ee ∙ ap sealed split ∙ seal-append (withFields zeros fs) long′ rest
 
 -- create's tests where test 1 passes: the buffer is shorter than the total, or not
-behind-first : (o : Options) (buffer : List ℕ) → firstOf (test1 o) ≡ 0
+behind-first : (o : Options) (buffer : List ℕ) → firstOf (createTest1 o) ≡ 0
     → firstOf (createTests o buffer) ≡ cond (ltb (length buffer) (totalSize o)) too-short 0
-unfolding createTests firstOf test1
-behind-first o buffer z = past (test1 o) ((ltb (length buffer) (totalSize o), too-short) ∷ []) tt z
+unfolding createTests firstOf createTest1
+behind-first o buffer z = past (createTest1 o) ((ltb (length buffer) (totalSize o), too-short) ∷ []) tt z
 
-module _ (o : Options) (buffer : List ℕ) {total : ℕ} (first : firstOf (test1 o) ≡ 0) (e : total ≡ totalSize o) where
+module _ (o : Options) (buffer : List ℕ) {total : ℕ} (first : firstOf (createTest1 o) ≡ 0) (e : total ≡ totalSize o) where
   pub short : length buffer < total → too-short ≡ firstOf (createTests o buffer)
   short h = sym (behind-first o buffer first ∙ rw (lt-ltb (length buffer) (totalSize o) (omega arith)) refl)
 

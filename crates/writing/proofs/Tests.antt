@@ -66,7 +66,7 @@ module _ (o : Options) (image : List ℕ) where
     pub fifth : firstOf (test5 image) ≡ 0
     pub sixth : firstOf (test6 image) ≡ 0
     pub eighth : firstOf (test8 o image) ≡ 0
-    pub ninth : firstOf (test9 o image) ≡ 0
+    pub ninth : firstOf (test9 image) ≡ 0
     pub tenth : firstOf (test10 image) ≡ 0
     pub eleventh : firstOf (test11 image) ≡ 0
 
@@ -81,7 +81,7 @@ module _ (o : Options) (image : List ℕ) where
       ∙ past (test5 image) _ tt (h .fifth)
       ∙ past (test6 image) _ tt (h .sixth)
       ∙ behind (test7 image) (fitting o image) (test12 o image)
-      (λ z. past (test8 o image) _ tt (h .eighth) ∙ past (test9 o image) _ tt (h .ninth) ∙ past (test10 image) _ tt (h .tenth) ∙ past (test11 image) _ tt (h .eleventh))
+      (λ z. past (test8 o image) _ tt (h .eighth) ∙ past (test9 image) _ tt (h .ninth) ∙ past (test10 image) _ tt (h .tenth) ∙ past (test11 image) _ tt (h .eleventh))
 
   pub header-holds : headerTest o image ≡ 0 → Holds
   unfolding test1 test2 test3 test4 test5 test6 test7 test8 test9 test10 test11
@@ -94,7 +94,7 @@ module _ (o : Options) (image : List ℕ) where
       let p₆ = first-none (test6 image) _ tt (p₅ .1) in
       let p₇ = first-none (test7 image) _ tt (p₆ .1) in
       let p₈ = first-none (test8 o image) _ tt (p₇ .1) in
-      let p₉ = first-none (test9 o image) _ tt (p₈ .1) in
+      let p₉ = first-none (test9 image) _ tt (p₈ .1) in
       let p₁₀ = first-none (test10 image) _ tt (p₉ .1) in
       let p₁₁ = first-none (test11 image) _ tt (p₁₀ .1) in
       record {

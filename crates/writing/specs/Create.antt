@@ -10,13 +10,13 @@ use Rattle.header.specs.Answer.{too-short}
 use Rattle.header.specs.Fields as F
 use Rattle.header.specs.Fields.{SLC1}
 use Rattle.header.specs.FirstOf.{firstOf}
-use Rattle.header.specs.HeaderTest.{test1}
+use Rattle.header.specs.HeaderTest.{createTest1}
 use Rattle.header.specs.Sizes.{slotSize, bucketCount, bucketsOffset, totalSize}
 use Rattle.writing.specs.Write.{withFields, sealed, Written, unless}
 
--- "Test 1; lent buffer shorter than the total: 11."
+-- "Test 1; lent buffer shorter than the total: 11.", and capacity 0: 7 (CR 10)
 unfoldable pub createTests : Options → List ℕ → List (Bool × ℕ)
-createTests o buffer = test1 o ++ (ltb (length buffer) (totalSize o), too-short) ∷ []
+createTests o buffer = createTest1 o ++ (ltb (length buffer) (totalSize o), too-short) ∷ []
 
 -- what a fresh header says; every other field is zero, and zero is CLEAN
 unfoldable pub freshFields : Options → List (ℕ × ℕ)

@@ -4,7 +4,7 @@ ghost use mathlib.Core.Path.{_≡_};
 ghost use mathlib.Core.List.{_++_};
 ghost use Prim.Native.Nat.{_≤_};
 ghost use lib.ListN.{length, take, drop};
-ghost use Rattle.header.specs.Sizes.{sizesAllowed, most-key-size, most-index-size, totalSize};
+ghost use Rattle.header.specs.Sizes.{sizesToCreate, most-key-size, most-index-size, totalSize};
 ghost use Rattle.writing.specs.Write.{withFields, Leaves};
 ghost use Rattle.writing.specs.Create.{freshFields, fresh, createOf};
 use crate::fields::seal;
@@ -12,7 +12,7 @@ use crate::fields::write;
 use header::answer::DONE;
 use header::answer::TOO_SHORT;
 use header::fields;
-use header::judge::options_test;
+use header::judge::create_options_test;
 use header::options::Options;
 use header::sizes::bucket_count;
 use header::sizes::buckets_offset;
@@ -47,7 +47,7 @@ fn write_options(image: &mut [u8], o: Options)
 
 // Puts where the slots and buckets lie into a header: the last three fields.
 fn write_layout(image: &mut [u8], o: Options)
-    requires { ⌜ (256 ≤ length (now image)) × (sizesAllowed o ≡ true) ⌝ }
+    requires { ⌜ (256 ≤ length (now image)) × (sizesToCreate o ≡ true) ⌝ }
     ensures { λ r. ⌜ now (image .exit) ≡ withFields (now (image .entry)) (drop 10 (freshFields o)) ⌝ }
 {
     let count = bucket_count(o.slot_capacity);
@@ -59,7 +59,7 @@ fn write_layout(image: &mut [u8], o: Options)
 
 // Makes the first bytes of the buffer, exactly the total, a fresh image.
 fn make(buffer: &mut [u8], o: Options, total: usize)
-    requires { ⌜ (total ≡ totalSize o) × (256 ≤ total) × (total ≤ length (now buffer)) × (sizesAllowed o ≡ true) × (o .ordered ≤ 1) ⌝ }
+    requires { ⌜ (total ≡ totalSize o) × (256 ≤ total) × (total ≤ length (now buffer)) × (sizesToCreate o ≡ true) × (o .ordered ≤ 1) ⌝ }
     ensures { λ r. ⌜ now (buffer .exit) ≡ fresh o ++ drop (totalSize o) (now (buffer .entry)) ⌝ }
 {
     clear(buffer, 0, total);
@@ -73,7 +73,7 @@ fn make(buffer: &mut [u8], o: Options, total: usize)
 pub fn create(buffer: &mut [u8], o: Options) -> u32
     ensures { λ r. ⌜ Leaves (createOf o (now (buffer .entry))) r (now (buffer .exit)) ⌝ }
 {
-    let refused = options_test(o);
+    let refused = create_options_test(o);
     if refused != DONE {
         return refused;
     }

@@ -3,6 +3,9 @@
 use denote.Ref.{now}
 use Rattle.header.specs.HeaderTest.{test8, test9, test10, test11}
 use Rattle.header.proofs.Firsts.{first-stops, first-after}
+use mathlib.Core.Path.{sym, _∙_}
+use Rattle.header.proofs.Allowed.{allowed}
+use Rattle.header.proofs.PassedTests.{total-fits}
 use borrow.Author.Needs.{needs}
 use Rattle.header.proofs.judge.fitting_test.Statement.{statement}
 use Rattle.header.proofs.judge.fitting_test.Tie as tie
@@ -25,10 +28,14 @@ returns-2 c =
     let a = c .before .before .before .before .before .args in
     let i = now (a .image) in
     first-after (test8 (a .o) i) _ tt (c .before .before .before .agreement-test .ensures) (c .before .before .if1 .left)
-    (first-stops (test9 (a .o) i) _ (c .before .buckets-test .ensures) (c .if2 .taken))
+    (first-stops (test9 i) _ (c .before .buckets-test .ensures) (c .if2 .taken))
 
 extent-test-requires : tie.Need-extent-test-requires
-extent-test-requires c κs = search needs
+extent-test-requires c κs =
+    let a = c .before .before .before .before .before in
+    let o = a .args .o in
+    let i = now (a .args .image) in
+    (a .pre .0, total-fits o i (allowed o (a .pre .1)) (sym (c .before .before .before .agreement-test .ensures) ∙ c .before .before .if1 .left) (sym (c .before .buckets-test .ensures) ∙ c .if2 .left))
 
 returns-3 : tie.Need-returns-3
 unfolding test8 test9
@@ -36,7 +43,7 @@ returns-3 c =
     let a = c .before .before .before .before .before .before .before .args in
     let i = now (a .image) in
     first-after (test8 (a .o) i) _ tt (c .before .before .before .before .before .agreement-test .ensures) (c .before .before .before .before .if1 .left)
-    (first-after (test9 (a .o) i) _ tt (c .before .before .before .buckets-test .ensures) (c .before .before .if2 .left)
+    (first-after (test9 i) _ tt (c .before .before .before .buckets-test .ensures) (c .before .before .if2 .left)
     (first-stops (test10 i) _ (c .before .extent-test .ensures) (c .if3 .taken)))
 
 counters-test-requires : tie.Need-counters-test-requires
@@ -48,7 +55,7 @@ returns-4 c =
     let a = c .before .before .before .before .before .before .before .before .before .args in
     let i = now (a .image) in
     first-after (test8 (a .o) i) _ tt (c .before .before .before .before .before .before .before .agreement-test .ensures) (c .before .before .before .before .before .before .if1 .left)
-    (first-after (test9 (a .o) i) _ tt (c .before .before .before .before .before .buckets-test .ensures) (c .before .before .before .before .if2 .left)
+    (first-after (test9 i) _ tt (c .before .before .before .before .before .buckets-test .ensures) (c .before .before .before .before .if2 .left)
     (first-after (test10 i) _ tt (c .before .before .before .extent-test .ensures) (c .before .before .if3 .left)
     (first-stops (test11 i) _ (c .before .counters-test .ensures) (c .if4 .taken))))
 
@@ -61,7 +68,7 @@ returns-5 c =
     let a = c .before .before .before .before .before .before .before .before .before .before .args in
     let i = now (a .image) in
     first-after (test8 (a .o) i) _ tt (c .before .before .before .before .before .before .before .before .agreement-test .ensures) (c .before .before .before .before .before .before .before .if1 .left)
-    (first-after (test9 (a .o) i) _ tt (c .before .before .before .before .before .before .buckets-test .ensures) (c .before .before .before .before .before .if2 .left)
+    (first-after (test9 i) _ tt (c .before .before .before .before .before .before .buckets-test .ensures) (c .before .before .before .before .before .if2 .left)
     (first-after (test10 i) _ tt (c .before .before .before .before .extent-test .ensures) (c .before .before .before .if3 .left)
     (first-after (test11 i) _ tt (c .before .before .counters-test .ensures) (c .before .if4 .left)
     (c .dirty-test .ensures))))

@@ -24,6 +24,9 @@ slot-size-requires c κs =
 read-requires-4 : tie.Need-read-requires-4
 read-requires-4 c κs = search needs
 
+capacity-fits-requires : tie.Need-capacity-fits-requires
+capacity-fits-requires c κs = search needs
+
 read-requires-5 : tie.Need-read-requires-5
 read-requires-5 c κs = search needs
 
@@ -36,8 +39,9 @@ refuse-requires c κs = search needs
 returns : tie.Need-returns
 unfolding test8
 returns c =
-    let sizes = c .before .before .before .before .before .before .before in
-    rw (← sizes .before .before .before .before .before .read .ensures, ← sizes .before .before .before .read2 .ensures, ← sizes .before .read3 .ensures, ← sizes .slot-size .ensures, ← c .before .before .before .before .before .before .read4 .ensures, ← c .before .before .before .before .read5 .ensures, ← c .before .before .read6 .ensures) (c .refuse .ensures)
+    let capacity = c .before .before .before .before .before in
+    let sizes = capacity .before .before in
+    rw (← sizes .before .before .before .before .before .read .ensures, ← sizes .before .before .before .read2 .ensures, ← sizes .before .read3 .ensures, ← sizes .slot-size .ensures, ← capacity .before .read4 .ensures, ← capacity .capacity-fits .ensures, ← c .before .before .before .before .read5 .ensures, ← c .before .before .read6 .ensures) (c .refuse .ensures)
 
 pub agreement-test-spec : {M : Type 1} → statement M
 agreement-test-spec =
@@ -48,6 +52,7 @@ agreement-test-spec =
     read-requires-3
     slot-size-requires
     read-requires-4
+    capacity-fits-requires
     read-requires-5
     read-requires-6
     refuse-requires

@@ -1,12 +1,9 @@
--- `header::points::extent_test` meets its contract: where tests 8 and 9 passed, the sum is far below 64 bits.
+-- `header::points::extent_test` meets its contract.
 -- Assumes nothing.
-use denote.Ref.{now}
 use native.Mathlib.Omega.{arith}
 use Rattle.header.specs.FirstOf.{firstOf}
 use Rattle.header.specs.HeaderTest.{imageTotal, test10}
 use Rattle.header.specs.Sizes.{total}
-use Rattle.header.proofs.Allowed.{allowed}
-use Rattle.header.proofs.PassedTests.{agreed, pinned-offset, pinned-buckets}
 use borrow.Author.Needs.{needs}
 use Rattle.header.proofs.points.extent_test.Statement.{statement}
 use Rattle.header.proofs.points.extent_test.Tie as tie
@@ -24,11 +21,10 @@ read-requires-4 : tie.Need-read-requires-4
 read-requires-4 c κs = search needs
 
 buckets-offset-requires : tie.Need-buckets-offset-requires
+unfolding imageTotal total
 buckets-offset-requires c κs =
     let a = c .before .before .before .before .before in
-    let i = now (a .args .image) in
-    let most = pinned-offset (a .args .o) i (allowed (a .args .o) (a .pre .1)) (agreed (a .args .o) i (a .pre .2)) in
-    rw (c .before .read3 .ensures, c .read4 .ensures) (omega (arith, most))
+    rw (c .before .read3 .ensures, c .read4 .ensures) (omega (arith, a .pre .1))
 
 returns : tie.Need-returns
 unfolding firstOf test10
@@ -40,23 +36,18 @@ read-requires-5 : tie.Need-read-requires-5
 read-requires-5 c κs = search needs
 
 mul-total : tie.Need-mul-total
+unfolding imageTotal total
 mul-total c =
     let a = c .before .before .before .before .before .before .before .before in
-    omega (arith, pinned-buckets (a .args .o) (now (a .args .image)) (allowed (a .args .o) (a .pre .1)) (a .pre .3))
+    omega (arith, a .pre .1)
 
 add-total : tie.Need-add-total
+unfolding imageTotal total
 add-total c =
     let d = c .before .before .before in
     let a = d .before .before .before .before .before in
-    let i = now (a .args .image) in
-    let h = allowed (a .args .o) (a .pre .1) in
     let offset = rw (d .before .read3 .ensures, d .read4 .ensures) at (c .before .before .buckets-offset .ensures) in
-    omega (
-      arith,
-      offset,
-      pinned-offset (a .args .o) i h (agreed (a .args .o) i (a .pre .2)),
-      pinned-buckets (a .args .o) i h (a .pre .3),
-    )
+    omega (arith, a .pre .1, offset)
 
 refuse-requires : tie.Need-refuse-requires
 refuse-requires c κs = search needs

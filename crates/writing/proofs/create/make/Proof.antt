@@ -1,7 +1,7 @@
 -- `writing::create::make` meets its contract: zeros, the header's fields in three groups, the CRC.
 -- Assumes nothing.
 use denote.Ref.{now}
-use Rattle.header.proofs.Allowed.{allowed}
+use Rattle.header.proofs.Allowed.{sized}
 use Rattle.writing.proofs.Making.{made}
 use borrow.Author.Needs.{needs}
 use Rattle.writing.proofs.create.make.Statement.{statement}
@@ -13,7 +13,7 @@ clear-requires c κs = search needs
 write-sizes-requires : tie.Need-write-sizes-requires
 write-sizes-requires c κs =
     let a = c .before .before .before .before .before .before in
-    let h = allowed (a .args .o) (a .pre .3) in
+    let h = sized (a .args .o) (a .pre .3) .sizes in
     (search needs, h .key-high, h .index-high)
 
 write-options-requires : tie.Need-write-options-requires

@@ -2,7 +2,7 @@
 -- Assumes nothing.
 use mathlib.Core.Path.{ap}
 use native.Mathlib.Omega.{arith}
-use Rattle.header.proofs.Allowed.{allowed, offset-fits}
+use Rattle.header.proofs.Allowed.{sized, offset-fits}
 use Rattle.header.specs.Sizes.{bucketsOffset}
 use Rattle.writing.specs.Write.{withFields}
 use Rattle.writing.specs.Create.{freshFields}
@@ -11,11 +11,11 @@ use Rattle.writing.proofs.create.write_layout.Statement.{statement}
 use Rattle.writing.proofs.create.write_layout.Tie as tie
 
 bucket-count-requires : tie.Need-bucket-count-requires
-bucket-count-requires c κs = allowed (c .before .args .o) (c .before .pre .1) .capacity-high
+bucket-count-requires c κs = sized (c .before .args .o) (c .before .pre .1) .sizes .capacity-high
 
 slot-size-requires : tie.Need-slot-size-requires
 slot-size-requires c κs =
-    let a = allowed (c .before .before .args .o) (c .before .before .pre .1) in
+    let a = sized (c .before .before .args .o) (c .before .before .pre .1) .sizes in
     (a .key-high, a .index-high)
 
 buckets-offset-requires : tie.Need-buckets-offset-requires
@@ -23,7 +23,7 @@ buckets-offset-requires c κs =
     let b = c .before .before .before in
     let o = b .args .o in
     let e = ap (bucketsOffset (o .«slot_capacity»)) (c .slot-size .ensures) in
-    omega (arith, e, offset-fits o (allowed o (b .pre .1)))
+    omega (arith, e, offset-fits o (sized o (b .pre .1) .sizes))
 
 write-requires : tie.Need-write-requires
 write-requires c κs = search needs
