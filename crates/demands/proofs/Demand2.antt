@@ -8,7 +8,6 @@ use mathlib.Core.List.{List, [], _∷_}
 use mathlib.Core.Option.{some}
 use native.Mathlib.Omega.{arith}
 use lib.Dec.{T}
-use lib.ListN.{length}
 use Rattle.header.specs.declared.options.Options.{Options}
 use Rattle.header.specs.declared.open.UserFields.{UserFields}
 use Rattle.header.specs.declared.shape.Judged.the-variants.{Fit}
@@ -20,9 +19,8 @@ use Rattle.header.specs.HeaderTest.{headerTests, headerTest, shapeOf, judged, t
 use Rattle.header.specs.Answer.{done}
 use Rattle.header.specs.Open.{openOf}
 use Rattle.header.proofs.Firsts.{named}
-use Rattle.header.proofs.Fit.{judged-fit, fit-key-size, fit-shaped}
+use Rattle.header.proofs.Fit.{judged-fit, fit-key-size}
 use Rattle.image.specs.Lookup.{lookupOf, indexPart}
-use Rattle.image.proofs.Places.{key-length}
 use Rattle.image.proofs.FullCheck.{Whole, passes-whole, whole-passes, full-check-law}
 use Rattle.listing.specs.Scan.{matches, list, scanOf}
 use Rattle.listing.specs.Match.{agrees, bitsCompared, matchOf}
@@ -36,7 +34,6 @@ use Rattle.writing.proofs.StateLaws.{checkpoint-became, invalidate-became}
 use Rattle.applying.specs.Apply.{committed}
 use Rattle.commit.specs.Commit.{soundTests, roomTests, furtherTests, commitTests, commitOf}
 use Rattle.maps.specs.Map.{Entry, Map, mapOf}
-use Rattle.maps.proofs.MapSlots.{some-iff}
 use Rattle.maps.proofs.ReadsMap.{lookup-some, lookup-none}
 use Rattle.demands.specs.History.{Word, writer, freshIn}
 use Rattle.demands.specs.Demand2.{ReadsBack, NoneHolds, Demand2}
@@ -47,6 +44,7 @@ use Rattle.demands.proofs.Created.{create-allowed, create-left, fresh-i
 use Rattle.demands.proofs.HistoryInvariant.{Held, writer-header, checkpoint-done, begin-done, held}
 use Rattle.demands.proofs.Patterns.{match-list}
 use Rattle.demands.proofs.Pieces.{pieces}
+use Rattle.demands.proofs.ReadMap.{key-sized}
 use Rattle.demands.proofs.Scanned.{few, lists-map}
 
 -- scan and match where the header test passes
@@ -94,20 +92,13 @@ module _ {o : Options} {image : List ℕ} {m : Map} {fields : UserFields} (h : H
     fit : judged o′ image ≡ Fit (shapeOf image)
     fit = judged-fit o′ image z
 
-    -- a key of the map has the right length: it is a slot's
-    key-sized : (key : List ℕ) (e : Entry) → m key ≡ some e → length key ≡ shapeOf image .layout .«key_size»
-    key-sized key e q =
-        let s = shapeOf image in
-        let has = some-iff s image (whole .sound) key e .0 (mapped key ∙ q) in
-        let shaped = fit-shaped o′ image s fit in
-        ap length (sym (has .1 .key)) ∙ key-length (s .layout) image (shaped .laid) (has .0) (omega (arith, has .1 .below, shaped .highwater))
-
     -- a key of the map is looked up, and the slot that is then given shows it
     looked : (key : List ℕ) (e : Entry) → m key ≡ some e
         → (lookupOf o′ image key .answer ≡ done) × (lookupOf o′ image key .revision ≡ e .revision) × (indexPart o′ image key ≡ e .index)
         × Shows o′ image (lookupOf o′ image key .slot) key e
     looked key e q =
-        let l = lookup-some o′ image key z (key-sized key e q) (whole .sound) e (mapped key ∙ q) in
+        let there = mapped key ∙ q in
+        let l = lookup-some o′ image key z (key-sized o′ image z (whole .sound) key e there) (whole .sound) e there in
         let same : record { revision = lookupOf o′ image key .revision; index = indexPart o′ image key } ≡ e =
         λ i. record { revision = l .1 i; index = l .2 i } in
         (l .0, l .1, l .2, rw same at (belongs o′ image key (l .0)))

@@ -1,20 +1,18 @@
 -- Images of exact length: what passes has the total's, and any other is refused.
 -- Assumes nothing.
-use Prim.Native.Nat.{ℕ, zero, suc, _+_, _*_, _≤_, _<_}
-use mathlib.Core.Bool.{Bool, true, or-true}
+use Prim.Native.Nat.{ℕ, zero, suc, _+_, _≤_, _<_}
+use mathlib.Core.Bool.{true, or-true}
 use mathlib.Core.Path.{_≡_, refl, sym, ap, _∙_, fun-ext}
 use mathlib.Core.List.{List, [], _∷_, _++_, append-assoc}
 use native.Mathlib.Omega.{arith}
 use native.Mathlib.Decide.{decLt}
-use borrow.Author.Tests.{eqb-true, ne-eqb, lt-ltb, le-ltb}
-use lib.Dec.{eqb}
+use borrow.Author.Tests.{ne-eqb, lt-ltb, le-ltb}
 use lib.ListN.{length, take, drop, length-append, length-drop, take-append-drop}
 use lib.Seq.{length-take-le, take-append-le, drop-append-le}
 use Rattle.numbers.proofs.Put.{part-append}
 use Rattle.digests.specs.Crc.{headerCrc}
 use Rattle.header.specs.declared.options.Options.{Options}
 use Rattle.header.specs.Answer.{needs-rebuild}
-use Rattle.header.specs.Fields as F
 use Rattle.header.specs.Fields.{fieldOf, bytesIn, value}
 use Rattle.header.specs.FirstOf.{firstOf}
 use Rattle.header.specs.HeaderTest.{test1, createTest1, test2, test3, test4, test5, test6, test7, test8, test9, imageTotal, test10, test11, test12, headerTests, headerTest, shapeOf, afterTest}
@@ -41,7 +39,8 @@ use Rattle.writing.proofs.Tests as tests
 use Rattle.host.specs.UserData.{userDataOf}
 use Rattle.host.proofs.Failed.{after-failed}
 use Rattle.demands.specs.Demand1.{Judges, LeavesAlone}
-use Rattle.demands.specs.ExactLength.{nine, number, OtherLength, unchanged, ExactLength}
+use Rattle.demands.specs.Before.{nine}
+use Rattle.demands.specs.ExactLength.{number, OtherLength, unchanged, ExactLength}
 use Rattle.demands.specs.History.{Word, writer, freshIn}
 use Rattle.demands.specs.Owes.{written}
 use Rattle.demands.proofs.Created.{create-allowed, create-left, fresh-in}

@@ -2,9 +2,10 @@
 -- Assumes nothing.
 use Prim.Native.Nat.{ℕ, _≤_}
 use mathlib.Core.Path.{_≡_, refl, sym, ap, _∙_}
-use mathlib.Core.Bool.{true}
+use mathlib.Core.Bool.{true, and-false}
 use mathlib.Core.List.{List}
 use native.Mathlib.Omega.{arith}
+use borrow.Author.Tests.{ne-eqb}
 use lib.Dec.{lit≤}
 use lib.ListN.{length}
 use Rattle.numbers.specs.Bytes.{Bytes}
@@ -15,24 +16,27 @@ use Rattle.header.specs.Answer.{done}
 use Rattle.header.specs.Fields as F
 use Rattle.header.specs.Fields.{value}
 use Rattle.header.specs.FirstOf.{firstOf}
-use Rattle.header.specs.State.{CLEAN, DIRTY, withRole}
+use Rattle.header.specs.State.{CLEAN, INVALIDATED, DIRTY, withRole}
 use Rattle.header.specs.HeaderTest.{headerTests, headerTest, shapeOf}
 use Rattle.header.specs.Open.{userFields, noFields}
 use Rattle.header.proofs.Firsts.{first-after}
+use Rattle.header.proofs.PassedTests.{length-passed}
 use Rattle.header.proofs.Stages.{header-named}
-use Rattle.image.specs.Check.{passes}
+use Rattle.image.specs.Check.{passes, checkOf}
+use Rattle.image.proofs.FullCheck.{whole-passes, full-check-law}
 use Rattle.writing.specs.Create.{createOf}
 use Rattle.writing.specs.State.{inState, writingTests, beginOf, checkpointOf, setUserFieldsOf}
 use Rattle.writing.proofs.Answers as W
 use Rattle.writing.proofs.Answers.{answers}
 use Rattle.writing.proofs.Refused.{user-refused}
 use Rattle.writing.proofs.Roles.{passed-long}
-use Rattle.writing.proofs.Became.{Became, dirty-header, clean-header}
+use Rattle.writing.proofs.Became.{Became, became-same, dirty-header, clean-header}
 use Rattle.writing.proofs.Fresh.{fresh-bytes, fresh-header, fresh-user}
 use Rattle.writing.proofs.FreshTable.{fresh-passes}
 use Rattle.writing.proofs.Lasting.{Kept}
 use Rattle.writing.proofs.LastingTable.{same-passes}
 use Rattle.writing.proofs.StateLaws.{begin-became, checkpoint-became}
+use Rattle.writing.proofs.Tests.{header-holds, not-invalidated}
 use Rattle.writing.proofs.UserLaws.{user-became, user-set, begin-user, checkpoint-user}
 use Rattle.maps.specs.Map.{Map, mapOf, applied}
 use Rattle.maps.proofs.MapFresh.{fresh-map}
@@ -42,8 +46,9 @@ use Rattle.maps.proofs.MapLasting.{kept-map}
 use Rattle.maps.proofs.MapLaw.{commit-map}
 use Rattle.applying.specs.Apply as A
 use Rattle.commit.specs.Commit.{commitTests, commitOf}
-use Rattle.demands.specs.History.{Word, writer, Handed, emptyMap, freshIn, History, created, begun, checkpointed, marked, marking-refused, committed, commit-refused}
+use Rattle.demands.specs.History.{Word, writer, Handed, emptyMap, readBy, freshIn, History, created, adopted, begun, checkpointed, marked, marking-refused, committed, commit-refused}
 use Rattle.demands.proofs.Created.{create-allowed, fresh-in}
+use Rattle.demands.proofs.ReadMap.{read-map}
 
 pub record Held (o : Options) (image : List ℕ) (m : Map) (fields : UserFields) : Type 0 where
   pub bytes : Bytes image
@@ -67,6 +72,24 @@ held-created o role buffer version a =
       map = λ i k. fresh-map o′ first version k i;
       user = fresh-user o′ first version;
     })
+
+pub held-adopted : (o : Options) (role : ℕ) (image : List ℕ) → Bytes image → checkOf (withRole o role) image .answer ≡ 0
+    → Held o image (readBy (withRole o role) image) (userFields image)
+unfolding firstOf
+held-adopted o role image bytes a =
+    let o′ = withRole o role in
+    let whole = full-check-law o′ image .0 a in
+    let z = whole .header in
+    let same = became-same o′ image z (length-passed image (header-holds o′ image z .second)) bytes in
+    record {
+      bytes = bytes;
+      dirty = λ r low other.
+          same .header r low ∙ rw (ne-eqb (value image F.state) INVALIDATED (not-invalidated o′ image z), ne-eqb r 0 other, and-false) refl;
+      clean = λ s r low. same .header r low ∙ rw s refl;
+      passed = whole-passes o′ image whole;
+      map = sym (read-map o′ image z (whole .sound));
+      user = refl;
+    }
 
 module _ {o : Options} {image : List ℕ} {m : Map} {fields : UserFields} (held : Held o image m fields) where
   pub writer-header : headerTest (writer o) image ≡ 0
@@ -157,6 +180,7 @@ module _ {o : Options} {image : List ℕ} {m : Map} {fields : UserFields} (held 
 
 pub held : {o : Options} {image : List ℕ} {m : Map} {fields : UserFields} → History o image m fields → Held o image m fields
 held {o} (created role buffer version a) = held-created o role buffer version a
+held {o} (adopted role image bytes a) = held-adopted o role image bytes a
 held (begun h) = held-begun (held h)
 held (checkpointed h) = held-checkpointed (held h)
 held (marked others handed h a) = held-marked (held h) others handed a

@@ -3,6 +3,8 @@ pub mod Demand2
 pub mod Demand3
 pub mod Examples
 pub mod ExactLength
+pub mod ForeignShapes
+pub mod ReadMap
 pub mod WholeLength
 pub mod Owing
 pub mod Calls

@@ -2,14 +2,14 @@
 -- Assumes nothing.
 use Prim.Native.Nat.{ℕ, _≤_, _<_}
 use mathlib.Core.Path.{_≡_}
-use mathlib.Core.Bool.{Bool, true}
+use mathlib.Core.Bool.{true}
 use mathlib.Core.List.{List, [], _∷_, _++_}
 use lib.ListN.{length, take}
 use Rattle.header.specs.declared.options.Options.{Options}
 use Rattle.header.specs.declared.open.UserFields.{UserFields}
 use Rattle.header.specs.Answer.{done, needs-rebuild}
 use Rattle.header.specs.FirstOf.{firstOf}
-use Rattle.header.specs.HeaderTest.{test1, createTest1, test2, test3, test4, test5, test6, test7, test8, test9, imageTotal, headerTest}
+use Rattle.header.specs.HeaderTest.{createTest1, imageTotal, headerTest}
 use Rattle.header.specs.Open.{noFields, openOf}
 use Rattle.header.specs.Sizes.{totalSize}
 use Rattle.image.specs.Lookup.{nothing, lookupOf, indexPart}
@@ -22,16 +22,11 @@ use Rattle.writing.specs.State.{beginOf, checkpointOf, invalidateOf, setUserFie
 use Rattle.commit.specs.Commit.{commitOf}
 use Rattle.host.specs.UserData.{filled, userDataOf, setUserFieldsFrom}
 use Rattle.maps.specs.Map.{Map}
+use Rattle.demands.specs.Before.{nine}
 use Rattle.demands.specs.History.{Word, freshIn, History}
 use Rattle.demands.specs.Owes.{written}
 
--- the nine tests before the tenth
-abbrev pub nine : Options → List ℕ → List (Bool × ℕ)
-nine o image =
-    test1 o ++ test2 image ++ test3 image ++ test4 o image ++ test5 image ++ test6 image ++ test7 image ++ test8 o image
-    ++ test9 image
-
--- "a length other than the total is 1", unless one of these gives another number
+-- "a length other than the total is 1", unless one of the tests before the tenth gives another number
 abbrev pub number : Options → List ℕ → ℕ
 number o image = firstOf (nine o image ++ (true, needs-rebuild) ∷ [])
 

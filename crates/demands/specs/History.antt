@@ -1,9 +1,12 @@
--- "From a fresh image, its writer's commits act as puts and deletes on a finite map, last operation on a key deciding."
+-- "From a fresh image, its writer's commits act as puts and deletes on a finite map, last operation on a key deciding."; and from
+-- any image that the full check passes, a partner's too (CR 10).
 -- Assumes nothing.
 use Prim.Native.Nat.{ℕ, _^_, _<_}
 use mathlib.Core.Path.{_≡_}
+use mathlib.Core.Bool.{cond}
 use mathlib.Core.List.{List}
-use mathlib.Core.Option.{none}
+use mathlib.Core.Option.{some, none}
+use lib.Dec.{eqb}
 use lib.ListN.{length, take}
 use Rattle.numbers.specs.Bytes.{Bytes}
 use Rattle.header.specs.declared.options.Options.{Options}
@@ -11,8 +14,10 @@ use Rattle.header.specs.declared.open.UserFields.{UserFields}
 use Rattle.header.specs.Answer.{done}
 use Rattle.header.specs.State.{withRole}
 use Rattle.header.specs.HeaderTest.{shapeOf}
-use Rattle.header.specs.Open.{noFields}
+use Rattle.header.specs.Open.{userFields, noFields}
 use Rattle.header.specs.Sizes.{totalSize}
+use Rattle.image.specs.Lookup.{lookupOf, indexPart}
+use Rattle.image.specs.Check.{checkOf}
 use Rattle.writing.specs.Create.{createOf}
 use Rattle.writing.specs.State.{beginOf, checkpointOf, setUserFieldsOf}
 use Rattle.commit.specs.Commit.{commitOf}
@@ -35,6 +40,14 @@ pub record Handed (fields : UserFields) : Type 0 where
 abbrev pub emptyMap : Map
 emptyMap key = none
 
+-- the map that lookup reads
+abbrev pub readBy : Options → List ℕ → Map
+readBy o image key =
+    cond
+    (eqb (lookupOf o image key .answer) done)
+    (some (record { revision = lookupOf o image key .revision; index = indexPart o image key }))
+    none
+
 -- a fresh image: what create wrote, the total's bytes of a buffer that may be longer
 abbrev pub freshIn : Options → List ℕ → List ℕ
 freshIn o buffer = take (totalSize o) (createOf o buffer .image)
@@ -44,6 +57,9 @@ freshIn o buffer = take (totalSize o) (createOf o buffer .image)
 pub data History (o : Options) : List ℕ → Map → UserFields → Type 0 where
   created : (role : ℕ) (buffer : List ℕ) → Word (o .«user_version») → createOf (withRole o role) buffer .answer ≡ done
       → History o (freshIn (withRole o role) buffer) emptyMap noFields
+  -- an image from elsewhere, of any capacity and B, that the full check passes: with what lookup and open check read there
+  adopted : (role : ℕ) (image : List ℕ) → Bytes image → checkOf (withRole o role) image .answer ≡ done
+      → History o image (readBy (withRole o role) image) (userFields image)
   begun : {image : List ℕ} {m : Map} {fields : UserFields} → History o image m fields
       → History o (beginOf (writer o) image .image) m fields
   checkpointed : {image : List ℕ} {m : Map} {fields : UserFields} → History o image m fields

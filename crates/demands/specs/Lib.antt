@@ -5,7 +5,9 @@ pub mod Examples
 pub mod History
 pub mod Listings
 pub mod Shows
+pub mod Before
 pub mod ExactLength
+pub mod ForeignShapes
 pub mod WholeLength
 pub mod Calls
 pub mod Exports

@@ -88,7 +88,7 @@ extent-passed image z =
 -- "live_count = bucket_used, and bucket_used + bucket_tombstones <= slot_highwater <= slot_capacity"
 pub counters-passed : (image : List ℕ) → firstOf (test11 image) ≡ 0
     → (value image F.live-count + value image F.bucket-tombstones ≤ value image F.slot-highwater)
-    × (value image F.slot-highwater ≤ value image F.slot-capacity)
+    × (value image F.slot-highwater ≤ value image F.slot-capacity) × (value image F.live-count ≡ value image F.bucket-used)
 unfolding test11
 counters-passed image z =
     let l : Bool = eqb (value image F.live-count) (value image F.bucket-used) in
@@ -97,7 +97,7 @@ counters-passed image z =
     let p = and-eq-true-iff (l && u) h .0 (not-false (l && u && h) (fails (not (l && u && h)) 0 z)) in
     let q = and-eq-true-iff l u .0 (p .0) in
     let e : value image F.live-count ≡ value image F.bucket-used = eqb-true _ _ (q .0) in
-    (rw e (leb-true _ _ (q .1)), leb-true _ _ (p .1))
+    (rw e (leb-true _ _ (q .1)), leb-true _ _ (p .1), e)
 
 module _ (o : Options) (image : List ℕ) where
   -- "key_size, index_size, slot_size, slot_capacity, user_version or ordered flag not as the options say" (CR 10): none of these

@@ -6,7 +6,7 @@ use mathlib.Core.Path.{_≡_, refl, sym, ap, _∙_}
 use native.Mathlib.Nat.{zero-add, add-suc, suc-add, two-pow-succ}
 use native.Mathlib.Decide.{decLe}
 use native.Mathlib.Omega.{arith}
-use borrow.Author.Tests.{leb-true, leb-false, le-leb, lt-leb, eq-eqb, ne-eqb}
+use borrow.Author.Tests.{leb-true, leb-false, le-leb, lt-leb, eqb-true, eq-eqb, ne-eqb}
 use lib.Dec.{leb}
 use lib.Pow.{pow-pos, pow-mono, pow-lt}
 use Rattle.header.specs.Sizes.{powerFrom}
@@ -102,6 +102,19 @@ power-itself (suc more) k j low high =
     elim (decLe j k) [
       | yes h ↦ rw (le-leb (2 ^ j) (2 ^ k) (pow-mono {i = j} {j = k} h)) (ap (_^_ 2) (omega arith))
       | no h ↦ rw (lt-leb (2 ^ j) (2 ^ k) (pow-lt {i = k} {j = j} (omega arith))) (power-itself more (suc k) j (omega arith) (omega arith))
+    ]
+
+-- what passes for a power of two is one, and each of 64 bits passes
+pub power-true : (n : ℕ) → powerOfTwo n ≡ true → (k : ℕ) × (n ≡ 2 ^ k)
+unfolding powerOfTwo
+power-true n t = let p = power-two 64 0 n in (p .0, sym (eqb-true (powerFrom 64 0 n) n t) ∙ p .1)
+
+pub true-power : (n k : ℕ) → n ≡ 2 ^ k → n < 2 ^ 64 → powerOfTwo n ≡ true
+unfolding powerOfTwo
+true-power n k e bits =
+    elim (decLe k 64) [
+      | yes h ↦ rw e (eq-eqb (powerFrom 64 0 (2 ^ k)) (2 ^ k) (power-itself 64 0 k (omega arith) h))
+      | no h ↦ absurd (let big : 2 ^ 64 ≤ 2 ^ k = pow-mono {i = 64} {j = k} (omega arith) in omega arith)
     ]
 
 pub power-of-power : (n : ℕ) → powerOfTwo (powerFrom 64 0 n) ≡ true

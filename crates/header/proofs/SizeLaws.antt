@@ -58,12 +58,6 @@ pub bucket-count-high : (capacity : ℕ) → 1 ≤ capacity → bucketCount capa
 unfolding bucketCount
 bucket-count-high capacity h = omega (arith, power-high 64 0 (2 * capacity) (omega arith))
 
-pub bucket-count-limit : (capacity : ℕ) → 1 ≤ capacity → capacity ≤ most-slot-capacity → bucketCount capacity ≤ 2 ^ 32
-bucket-count-limit capacity low high = omega (arith, bucket-count-high capacity low)
-
 -- there are more buckets than slots
 pub bucket-count-room : (capacity : ℕ) → 1 ≤ capacity → capacity ≤ most-slot-capacity → capacity < bucketCount capacity
 bucket-count-room capacity low high = omega (arith, bucket-count-low capacity high)
-
-pub bucket-count-two : (capacity : ℕ) → 1 ≤ capacity → capacity ≤ most-slot-capacity → 2 ≤ bucketCount capacity
-bucket-count-two capacity low high = omega (arith, bucket-count-low capacity high)

@@ -8,7 +8,6 @@ ghost use Rattle.header.specs.FirstOf.{firstOf};
 ghost use Rattle.header.specs.HeaderTest.{test2, test3, test4, test5, test6, test7, test8, test9, imageTotal, test10, test11, test12};
 use crate::answer::BUSY;
 use crate::answer::CREATE_IT;
-use crate::answer::DONE;
 use crate::answer::INCOMPATIBLE;
 use crate::answer::INVALIDATED;
 use crate::answer::NEEDS_REBUILD;

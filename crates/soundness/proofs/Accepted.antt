@@ -1,8 +1,8 @@
 -- What it says of an image and a batch that none of the commit's tests holds.
 -- Assumes nothing.
 use Prim.Native.Nat.{ℕ, _+_, _-_, _^_, _≤_, _<_}
-use mathlib.Core.Bool.{Bool, true, false, not, _&&_}
-use mathlib.Core.Path.{_≡_, sym, _∙_}
+use mathlib.Core.Bool.{Bool, true, false, not}
+use mathlib.Core.Path.{_≡_}
 use mathlib.Core.List.{List, [], _∷_}
 use native.Mathlib.Omega.{arith}
 use lib.Dec.{eqb, ltb}
@@ -10,11 +10,11 @@ use borrow.Author.Tests.{eqb-false, ltb-false, not-false}
 use Rattle.header.specs.declared.options.Options.{Options}
 use Rattle.header.specs.declared.shape.Shape.{Shape}
 use Rattle.image.specs.Lookup.{isLive}
-use Rattle.header.specs.Answer.{needs-rebuild, invalidated, busy, full, out-of-order, invalid-input}
+use Rattle.header.specs.Answer.{needs-rebuild, busy, full, out-of-order, invalid-input}
 use Rattle.header.specs.Fields as F
 use Rattle.header.specs.Fields.{value}
 use Rattle.header.specs.FirstOf.{firstOf}
-use Rattle.header.specs.State.{CLEAN, INVALIDATED, DIRTY}
+use Rattle.header.specs.State.{CLEAN, DIRTY}
 use Rattle.header.specs.HeaderTest.{test1, test2, test3, test4, test5, test6, test7, test8, test9, test10, test11, test12, headerTests, headerTest, shapeOf}
 use Rattle.header.specs.Shaped.{Shaped}
 use Rattle.header.proofs.Firsts.{first-none, fails}
@@ -25,7 +25,7 @@ use Rattle.image.specs.Check.{passes}
 use Rattle.writing.specs.State.{writingTests, cleanTest, generationTest, userTests}
 use Rattle.writing.proofs.Bytes.{Bytes, value-bound}
 use Rattle.writing.proofs.MoreTests.{change-writing, change-clean, change-generation, not-last}
-use Rattle.writing.proofs.Tests.{Holds, even-passed, state-passed, header-by-state, header-holds}
+use Rattle.writing.proofs.Tests.{Holds, even-passed, state-passed, header-holds, not-invalidated}
 use Rattle.batch.specs.Batch.{batchWrong}
 use Rattle.batch.specs.NewKeys.{newCount}
 use Rattle.commit.specs.Commit.{fallsBehind, furtherTests, soundTests, roomTests, commitTests}
@@ -39,15 +39,8 @@ pub record Accepted (o : Options) (image batch : List ℕ) : Type 0 where
   pub dirty : value image F.state ≡ DIRTY
   pub more : value image F.generation + 2 < 2 ^ 64
   pub right : batchWrong (shapeOf image .layout) batch ≡ false
+  pub passed : passes (shapeOf image) image ≡ true
   pub ready : Ready (shapeOf image) image batch
-
--- test 7: an image that passes the header test is CLEAN or DIRTY
-not-invalidated : (o : Options) (image : List ℕ) → headerTest o image ≡ 0 → value image F.state ≡ INVALIDATED → ⊥
-not-invalidated o image z =
-    let tests = sym (header-by-state o image (header-holds o image z)) ∙ z in
-    let state : Bool = eqb (value image F.state) INVALIDATED in
-    let p = first-none ((state, invalidated) ∷ []) ((eqb (value image F.state) DIRTY && eqb (o .role) 0, needs-rebuild) ∷ []) tt tests in
-    eqb-false _ _ (fails state 2 (p .0))
 
 module _ (o : Options) (image batch : List ℕ) (accepted : firstOf (commitTests o image batch) ≡ 0) where
   abbrev s : Shape
@@ -125,5 +118,6 @@ module _ (o : Options) (image batch : List ℕ) (accepted : firstOf (commitTests
         dirty = is-dirty;
         more = has-more bytes;
         right = further .right;
+        passed = further .passed;
         ready = record { fit = fit; formed = formed; room = omega (arith, further .room, fit .highwater); ahead = further .ahead };
       }

@@ -109,3 +109,10 @@ module _ (o : Options) (image : List ℕ) where
         tenth = p₁₀ .0;
         eleventh = p₁₁ .0;
       }
+
+-- test 7: an image that passes is CLEAN or DIRTY
+pub not-invalidated : (o : Options) (image : List ℕ) → headerTest o image ≡ 0 → value image F.state ≡ INVALIDATED → ⊥
+not-invalidated o image z =
+    let state : Bool = eqb (value image F.state) INVALIDATED in
+    let tests = sym (header-by-state o image (header-holds o image z)) ∙ z in
+    eqb-false _ _ (fails state 2 (first-none ((state, invalidated) ∷ []) _ tt tests .0))

@@ -11,21 +11,20 @@ use lib.ListN.{length}
 use Rattle.numbers.specs.Bytes.{word, bytesOf, put}
 use Rattle.header.specs.declared.options.Options.{Options}
 use Rattle.header.specs.declared.open.UserFields.{UserFields}
-use Rattle.header.specs.Answer.{invalidated}
 use Rattle.header.specs.Fields as F
 use Rattle.header.specs.Fields.{bytesIn, value}
 use Rattle.header.specs.FirstOf.{firstOf}
-use Rattle.header.specs.State.{CLEAN, INVALIDATED, DIRTY}
+use Rattle.header.specs.State.{CLEAN, DIRTY}
 use Rattle.header.specs.HeaderTest.{headerTest}
 use Rattle.header.specs.Open.{userFields}
-use Rattle.header.proofs.Firsts.{first-none, fails}
+use Rattle.header.proofs.Firsts.{fails}
 use Rattle.writing.specs.Write.{withField, withFields, sealed, unless}
 use Rattle.writing.specs.State.{writingTests, cleanTest, userTests, published, inState, beginOf, checkpointOf, withUserData, setUserFieldsOf}
 use Rattle.writing.proofs.OneField.{Fits, apart, field-length, field-bytes}
 use Rattle.writing.proofs.FieldList.{Fitting, after, fields-length, fields-value}
 use Rattle.writing.proofs.Bytes.{Bytes, word-bound, bytes-word, value-bytes}
 use Rattle.writing.proofs.Seal.{seal-bytes, seal-other}
-use Rattle.writing.proofs.Tests.{state-passed, header-holds, header-by-state}
+use Rattle.writing.proofs.Tests.{state-passed, header-holds, not-invalidated}
 use Rattle.writing.proofs.Answers.{answers, accepted}
 use Rattle.writing.proofs.Roles.{passed-header, passed-long, passed-even}
 use Rattle.writing.proofs.MoreTests.{change-writing, change-clean, change-generation}
@@ -43,11 +42,8 @@ dirty : (o : Options) (image : List ℕ) → headerTest o image ≡ 0 → firstO
 unfolding cleanTest
 dirty o image z c =
     let s : ℕ = value image F.state in
-    let h = header-holds o image z in
-    let p = first-none ((eqb s INVALIDATED, invalidated) ∷ []) _ tt (sym (header-by-state o image h) ∙ z) in
-    let valid = eqb-false s INVALIDATED (fails (eqb s INVALIDATED) 2 (p .0)) in
     let unclean = eqb-false s CLEAN (fails (eqb s CLEAN) 6 c) in
-    omega (arith, state-passed image (h .sixth))
+    omega (arith, not-invalidated o image z, state-passed image (header-holds o image z .sixth))
 
 module _ (o : Options) (image : List ℕ) (bytes : Bytes image) (fields : UserFields) (size : length (fields .«user_data») ≡ 64) (user-bytes : Bytes (fields .«user_data»)) (flags : Fits F.user-flags (fields .«user_flags»)) where
   -- the fields that the call writes
