@@ -1,7 +1,7 @@
 -- `header::extent::extent_of` meets its contract.
 -- Assumes nothing.
 use denote.Ref.{now}
-use mathlib.Core.Path.{refl, sym, _∙_}
+use mathlib.Core.Path.{sym, _∙_}
 use Rattle.header.specs.Extent.{extentOf}
 use Rattle.header.specs.HeaderTest.{layoutOf, shapeOf}
 use Rattle.header.proofs.After.{after-fit, after-refused}
@@ -27,7 +27,10 @@ unfolding extentOf shapeOf layoutOf
 returns c =
     let a = c .before .before .before .before .before .args in
     let fit = sym (c .before .before .before .judge .ensures) ∙ c .before .s .given .1 in
-    rw (after-fit (a .o) (now (a .image)) _ _ _ fit, fit-shape (a .o) (now (a .image)) _ fit, fit-total (a .o) (now (a .image)) _ fit) refl
+    let shape = fit-shape (a .o) (now (a .image)) _ fit in
+    let size = fit-total (a .o) (now (a .image)) _ fit in
+    rw (after-fit (a .o) (now (a .image)) _ _ _ fit)
+    (λ i. record { capacity = shape i .layout .«slot_capacity»; buckets = shape i .layout .«bucket_count»; total = size i })
 
 returns-2 : tie.Need-returns-2
 unfolding extentOf
