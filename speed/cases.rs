@@ -106,7 +106,7 @@ impl Case {
             role: LOCK_HELD,
         };
         let first = 2_300_000;
-        let layout = Layout::of(&options).expect("options within the sizes");
+        let layout = Layout::of(&options);
         let mut image = begun_image(&options);
         load(
             &mut image,

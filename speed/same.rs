@@ -62,14 +62,19 @@ fn commit_by_both(image: &[u8], options: &Options, batch: &[u8]) -> Result<Vec<u
 
 fn try_image(random: &mut Random, ordered: u64) -> Result<(), String> {
     let options = options(random, ordered);
-    let layout = Layout::of(&options).expect("options within the sizes");
+    let layout = Layout::of(&options);
     let mut image = begun_image(&options);
     for turn in 0..COMMITS {
         let batch = batch(random, &layout, 2 * turn);
         let mut damaged = image.clone();
         damaged[random.below(layout.total_size)] ^= 1 << random.below(8);
-        commit_by_both(&damaged, &options, &batch)?;
-        image = commit_by_both(&image, &options, &batch)?;
+        let slot_capacity = options.slot_capacity * random.below(2) as u64; // or as the header says
+        let asked = Options {
+            slot_capacity,
+            ..options
+        };
+        commit_by_both(&damaged, &asked, &batch)?;
+        image = commit_by_both(&image, &asked, &batch)?;
     }
     Ok(())
 }

@@ -69,7 +69,7 @@ fn library_full_check(image: &[u8], options: &Options) -> u32 {
 
 /// A fresh image, DIRTY, by the library.
 pub fn begun_image(options: &Options) -> Vec<u8> {
-    let layout = Layout::of(options).expect("options within the sizes");
+    let layout = Layout::of(options);
     let mut image = vec![0; layout.total_size];
     let created = call!(slc1_create, image.as_mut_ptr(), image.len(), options);
     let begun = call!(slc1_begin, image.as_mut_ptr(), image.len(), options);

@@ -1,7 +1,9 @@
 //! The header: its test, and its fields as a commit reads and writes them.
 
 use super::digests::crc32c;
-use super::layout::{put_u64, u32_at, u64_at, Layout, Options, HEADER_SIZE};
+use super::layout::{
+    put_u64, u32_at, u64_at, Layout, Options, BUCKET_LIMIT, CAPACITY_LIMIT, HEADER_SIZE,
+};
 
 pub const DONE: u32 = 0;
 pub const NEEDS_REBUILD: u32 = 1;
@@ -91,19 +93,32 @@ fn written_test(image: &[u8], options: &Options) -> Result<(), u32> {
     refuse_if(u32_at(image, STATE_AT) == STATE_INVALIDATED, INVALIDATED)
 }
 
-/// Tests 8 to 11: that the header fits the options, the image's length and itself.
-fn fitting_test(image: &[u8], options: &Options, layout: &Layout) -> Result<(), u32> {
+/// Tests 8 and 9: that the header fits the options; the layout that it gives.
+fn layout_test(image: &[u8], options: &Options) -> Result<Layout, u32> {
+    let capacity = u64_at(image, SLOT_CAPACITY_AT);
+    let bucket_count = u64_at(image, BUCKET_COUNT_AT);
     let agrees = u64::from(u32_at(image, KEY_SIZE_AT)) == options.key_size
         && u64::from(u32_at(image, INDEX_SIZE_AT)) == options.index_size
-        && u32_at(image, SLOT_SIZE_AT) as usize == layout.slot_size
-        && u64_at(image, SLOT_CAPACITY_AT) == options.slot_capacity
+        && u32_at(image, SLOT_SIZE_AT) as usize == options.slot_size()
+        && match options.slot_capacity {
+            0 => (1..=CAPACITY_LIMIT).contains(&capacity),
+            given => capacity == given,
+        }
         && u64_at(image, USER_VERSION_AT) == options.user_version
         && u64::from(u32_at(image, FLAGS_AT)) == options.ordered;
     refuse_if(!agrees, INCOMPATIBLE)?;
-    let bucket_count = u64_at(image, BUCKET_COUNT_AT);
-    let possible = bucket_count >= 2 && bucket_count.is_power_of_two();
-    refuse_if(!possible, NEEDS_REBUILD)?;
-    refuse_if(bucket_count as usize != layout.bucket_count, INCOMPATIBLE)?;
+    let power = bucket_count.is_power_of_two();
+    refuse_if(power && bucket_count > BUCKET_LIMIT, INCOMPATIBLE)?;
+    refuse_if(!power || bucket_count <= capacity, NEEDS_REBUILD)?;
+    Ok(Layout::with(
+        options,
+        capacity as usize,
+        bucket_count as usize,
+    ))
+}
+
+/// Tests 10 and 11: that it fits the image's length and itself.
+fn extent_test(image: &[u8], layout: &Layout) -> Result<(), u32> {
     let extends = u64_at(image, SLOTS_OFFSET_AT) as usize == HEADER_SIZE
         && u64_at(image, BUCKETS_OFFSET_AT) as usize == layout.buckets_offset
         && image.len() == layout.total_size;
@@ -112,18 +127,19 @@ fn fitting_test(image: &[u8], options: &Options, layout: &Layout) -> Result<(), 
     let highwater = u64_at(image, SLOT_HIGHWATER_AT);
     let counts = u64_at(image, LIVE_COUNT_AT) == used
         && used.saturating_add(u64_at(image, BUCKET_TOMBSTONES_AT)) <= highwater
-        && highwater <= options.slot_capacity;
+        && highwater <= layout.slot_capacity as u64;
     refuse_if(!counts, NEEDS_REBUILD)
 }
 
 impl Header {
     /// The header test, in the specification's order.
     pub fn judge(image: &[u8], options: &Options) -> Result<Header, u32> {
-        let layout = Layout::of(options).ok_or(INVALID_INPUT)?;
+        refuse_if(!options.allowed(), INVALID_INPUT)?;
         refuse_if(image.is_empty(), CREATE_IT)?;
         refuse_if(image.len() < HEADER_SIZE, NEEDS_REBUILD)?;
         written_test(image, options)?;
-        fitting_test(image, options, &layout)?;
+        let layout = layout_test(image, options)?;
+        extent_test(image, &layout)?;
         let state = u32_at(image, STATE_AT);
         let left_dirty = state == STATE_DIRTY && options.role == NO_WRITER_KNOWN;
         refuse_if(left_dirty, NEEDS_REBUILD)?;

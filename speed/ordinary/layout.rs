@@ -11,6 +11,7 @@ pub struct Options {
 }
 
 pub const CAPACITY_LIMIT: u64 = 1_048_576;
+pub const BUCKET_LIMIT: u64 = 4_194_304;
 
 pub const HEADER_SIZE: usize = 256;
 pub const BUCKET_SIZE: usize = 16;
@@ -52,33 +53,46 @@ fn bucket_in(bytes: &[u8]) -> (u64, u64) {
     (u64_at(bytes, 0), u64_at(bytes, 8))
 }
 
+impl Options {
+    /// Whether an image may be opened with them; a slot_capacity of 0 is as the header says.
+    pub fn allowed(&self) -> bool {
+        (1..=64).contains(&self.key_size)
+            && self.index_size <= 256
+            && self.slot_capacity <= CAPACITY_LIMIT
+            && self.ordered <= 1
+            && self.role <= 2
+    }
+
+    pub fn slot_size(&self) -> usize {
+        KEY_AT + up_to_8(self.key_size as usize) + 8 + up_to_8(self.index_size as usize)
+    }
+}
+
 impl Layout {
-    /// None where the options are out of range.
-    pub fn of(options: &Options) -> Option<Layout> {
-        let allowed = (1..=64).contains(&options.key_size)
-            && options.index_size <= 256
-            && (1..=CAPACITY_LIMIT).contains(&options.slot_capacity)
-            && options.ordered <= 1
-            && options.role <= 2;
-        if !allowed {
-            return None;
-        }
-        let key_size = options.key_size as usize;
-        let index_size = options.index_size as usize;
+    /// Of an image that is made with these options, which are within the sizes.
+    pub fn of(options: &Options) -> Layout {
         let slot_capacity = options.slot_capacity as usize;
-        let slot_size = KEY_AT + up_to_8(key_size) + 8 + up_to_8(index_size);
-        let bucket_count = (2 * slot_capacity).next_power_of_two();
+        Layout::with(
+            options,
+            slot_capacity,
+            (2 * slot_capacity).next_power_of_two(),
+        )
+    }
+
+    /// Of an image with so many slots and buckets.
+    pub fn with(options: &Options, slot_capacity: usize, bucket_count: usize) -> Layout {
+        let slot_size = options.slot_size();
         let buckets_offset = HEADER_SIZE + slot_capacity * slot_size;
-        Some(Layout {
-            key_size,
-            index_size,
+        Layout {
+            key_size: options.key_size as usize,
+            index_size: options.index_size as usize,
             slot_size,
             slot_capacity,
             bucket_count,
             buckets_offset,
             total_size: buckets_offset + bucket_count * BUCKET_SIZE,
             ordered: options.ordered == 1,
-        })
+        }
     }
 
     pub fn revision_at(&self) -> usize {
