@@ -10,6 +10,7 @@ enum { CLEAN = 0, DIRTY = 2 };
 struct header_numbers {
     uint64_t slot_highwater, live_count, bucket_tombstones, generation, state, user_flags;
     const uint8_t *user_data; /* SLC1_USER_DATA_SIZE bytes, or NULL for zeros */
+    uint64_t bucket_count;    /* or 0 for as many as slc1_create gives */
 };
 
 static inline void put_number(uint8_t *bytes, size_t width, uint64_t value)
@@ -45,7 +46,7 @@ static inline void write_header(uint8_t *header, const slc1_options *o, const st
     put_number(header + 0x28, 8, n->slot_highwater);
     put_number(header + 0x30, 8, n->live_count);
     put_number(header + 0x38, 8, o->user_version);
-    put_number(header + 0x48, 8, bucket_count_of(o));
+    put_number(header + 0x48, 8, n->bucket_count > 0 ? n->bucket_count : bucket_count_of(o));
     put_number(header + 0x50, 8, n->live_count); /* bucket_used */
     put_number(header + 0x58, 8, n->bucket_tombstones);
     put_number(header + 0x60, 8, 256); /* slots_offset */

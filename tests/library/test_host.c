@@ -125,7 +125,7 @@ static void lay_out(void)
 
     for (uint8_t i = 0; i < sizeof data; i++)
         data[i] = i;
-    write_header(image, &options, &(struct header_numbers){2, 1, 1, 0, CLEAN, 0x1122334455667788, data});
+    write_header(image, &options, &(struct header_numbers){2, 1, 1, 0, CLEAN, 0x1122334455667788, data, 0});
     memcpy(image + 256 + 8, "abg", 3);
     put(288, 8, 1);
     memcpy(image + 288 + 8, "abc", 3);
@@ -359,6 +359,73 @@ static void batches(void)
     same("and nothing changed", (uint64_t)memcmp(before, fresh, sizeof fresh), 0);
 }
 
+static void measured(const uint8_t *lent, size_t length, const slc1_options *o, uint64_t slots, uint64_t buckets, uint64_t total)
+{
+    same("its slots", slc1_image_capacity(lent, length, SLC1_OPTIONS(o)), slots);
+    same("its buckets", slc1_image_buckets(lent, length, SLC1_OPTIONS(o)), buckets);
+    same("its bytes", slc1_image_total(lent, length, SLC1_OPTIONS(o)), total);
+}
+
+/* With slot_capacity 0, as its header says: the image above; places and records; and create, which has no header to ask. */
+static void as_the_header_says(void)
+{
+    const slc1_options any = {3, 5, 0, 9, 0, SLC1_NO_WRITER_KNOWN}, other = {3, 5, 3, 9, 0, SLC1_NO_WRITER_KNOWN};
+    const uint64_t last = SLC1_CAPACITY_LIMIT - 1;
+    const uint8_t *abc = (const uint8_t *)"abc";
+    uint8_t record[32];
+
+    same("a full check", slc1_full_check(image, TOTAL, SLC1_OPTIONS(&any)), SLC1_DONE);
+    measured(image, TOTAL, &any, 2, 4, TOTAL);
+    measured(image, TOTAL, &options, 2, 4, TOTAL);
+    measured(image, TOTAL, &other, 0, 0, 0);
+    measured(image, TOTAL - 1, &any, 0, 0, 0);
+    same("a key", slc1_get(image, TOTAL, &any, abc, 3, NULL, NULL, NULL, NULL) == image + 288 + 24, 1);
+    same("no total size", slc1_total_size(SLC1_OPTIONS(&any)), 0);
+    same("key offset of the last slot", slc1_key_offset(SLC1_OPTIONS(&any), last), 256 + last * 32 + 8);
+    same("key offset past it", slc1_key_offset(SLC1_OPTIONS(&any), last + 1), 0);
+    same("index offset of the last slot", slc1_index_offset(SLC1_OPTIONS(&any), last), 256 + last * 32 + 8 + 8 + 8);
+    same("index offset past it", slc1_index_offset(SLC1_OPTIONS(&any), last + 1), 0);
+    same("a record", slc1_delete_record(record, sizeof record, &any, abc, 3), SLC1_DONE);
+    same("create", slc1_create(image, TOTAL, SLC1_OPTIONS(&any)), SLC1_INVALID_INPUT);
+    same("and nothing changed", slc1_open_check(image, TOTAL, SLC1_OPTIONS(&any)), SLC1_DONE);
+}
+
+/* 2 slots of 32 bytes under other numbers of buckets: a header and zeros, DIRTY, opened as the header says. */
+static uint32_t opened_with(uint64_t bucket_count, uint64_t slot_capacity)
+{
+    const slc1_options own = {3, 5, slot_capacity, 9, 0, SLC1_LOCK_HELD}, any = {3, 5, 0, 9, 0, SLC1_LOCK_HELD};
+    static uint8_t lent[256 + 2 * 32 + 16 * 16];
+    size_t length = bucket_count < 16 ? 256 + 2 * 32 + 16 * (size_t)bucket_count : sizeof lent;
+
+    write_header(lent, &own, &(struct header_numbers){.state = DIRTY, .bucket_count = bucket_count});
+    return slc1_open_check(lent, length, SLC1_OPTIONS(&any));
+}
+
+static void foreign(void)
+{
+    const slc1_options own = {3, 5, 2, 9, 0, SLC1_LOCK_HELD}, any = {3, 5, 0, 9, 0, SLC1_LOCK_HELD};
+    enum { BUCKETS = 16, FOREIGN = 256 + 2 * 32 + BUCKETS * 16 };
+    const uint8_t *abc = (const uint8_t *)"abc", *index = (const uint8_t *)"index";
+    uint8_t lent[FOREIGN] = {0}, batch[32];
+
+    same("4 buckets", opened_with(4, 2), SLC1_DONE);
+    same("16 buckets", opened_with(16, 2), SLC1_DONE);
+    same("2 buckets", opened_with(2, 2), SLC1_NEEDS_REBUILD);
+    same("6 buckets", opened_with(6, 2), SLC1_NEEDS_REBUILD);
+    same("twice the most buckets", opened_with(2 * SLC1_BUCKET_LIMIT, 2), SLC1_INCOMPATIBLE);
+    same("no slots", opened_with(4, 0), SLC1_INCOMPATIBLE);
+    same("a slot too many", opened_with(4, SLC1_CAPACITY_LIMIT + 1), SLC1_INCOMPATIBLE);
+
+    write_header(lent, &own, &(struct header_numbers){.state = DIRTY, .bucket_count = BUCKETS});
+    measured(lent, FOREIGN, &any, 2, BUCKETS, FOREIGN);
+    same("a record", slc1_put_record(batch, sizeof batch, &any, abc, 3, -7, index, 5), SLC1_DONE);
+    same("a commit", slc1_commit(lent, FOREIGN, SLC1_OPTIONS(&any), batch, sizeof batch), SLC1_DONE);
+    same("what it leaves", slc1_full_check_live(lent, FOREIGN, SLC1_OPTIONS(&any)), 1);
+    same("in the bucket of 16", slc1_word_at(lent + FOREIGN - BUCKETS * 16 + (0xe71fa2190541574b % BUCKETS) * 16 + 8), 1);
+    same("its revision", (uint64_t)slc1_lookup_revision(lent, FOREIGN, SLC1_OPTIONS(&own), abc, 3), (uint64_t)-7);
+    measured(lent, FOREIGN, &own, 2, BUCKETS, FOREIGN);
+}
+
 /* The helpers of the header: what they refuse, and what they make of keys and indexes of the right length. */
 static void helpers(void)
 {
@@ -432,6 +499,8 @@ int main(void)
     listings_reported();
     written();
     batches();
+    as_the_header_says();
+    foreign();
     helpers();
     if (differences == 0)
         puts("every call of slc1.h answers as it should");
