@@ -75,21 +75,21 @@ def altered(image, **fields):
     return image
 
 
-def bucket(image, o, number):
-    return struct.unpack_from("<QQ", image, buckets_offset(o) + 16 * number)
+def bucket(image, number):
+    return struct.unpack_from("<QQ", image, field(image, "buckets_offset") + 16 * number)
 
 
-def set_bucket(image, o, number, hash64, slot_plus1):
-    struct.pack_into("<QQ", image, buckets_offset(o) + 16 * number, hash64, slot_plus1)
+def set_bucket(image, number, hash64, slot_plus1):
+    struct.pack_into("<QQ", image, field(image, "buckets_offset") + 16 * number, hash64, slot_plus1)
 
 
 def set_meta(image, o, slot, meta):
     struct.pack_into("<Q", image, 256 + slot * slot_size(o), meta)
 
 
-def distance(image, o, key, slot_plus1):
+def distance(image, key, slot_plus1):
     """How far from its home bucket a key's probe meets the given slot_plus1."""
-    marks = [bucket(image, o, number)[1] for number in range(bucket_count(o))]
+    marks = [bucket(image, number)[1] for number in range(field(image, "bucket_count"))]
     home = fnv1a64(key) % len(marks)
     return (marks[home:] + marks[:home]).index(slot_plus1)
 
@@ -246,11 +246,11 @@ class Histories(Case):
             found = lookup(image, reader, key)
             if key in model.map:
                 slot, (revision, index) = model.slot(key), model.map[key]
-                count = distance(image, reader, key, slot + 1) + 1
+                count = distance(image, key, slot + 1) + 1
                 self.assertEqual(found, Lookup(0, slot, revision, count, index))
                 probes += count
             else:
-                count = distance(image, reader, key, EMPTY) + 1
+                count = distance(image, key, EMPTY) + 1
                 self.assertEqual(found, Lookup(9, buckets=count))
             self.assertLessEqual(count, checked.live + checked.tombstones + 1)
         tombstones = field(image, "bucket_tombstones")
@@ -368,12 +368,12 @@ class Readings(Case):
         image = begun(BASE, puts(BASE, self.keys[1:]))
         for slot in range(3):
             set_meta(image, BASE, slot, 0)
-            set_bucket(image, BASE, slot, slot, TOMBSTONE)
+            set_bucket(image, slot, slot, TOMBSTONE)
         write_fields(image, live_count=1, bucket_used=1, bucket_tombstones=3)
         self.assertEqual(full_check(image, BASE), FullCheck(0, 1, 3, 1))
         self.assertEqual(commit(image, BASE, b""), 0)
         self.assertEqual(full_check(image, BASE), FullCheck(0, 1, 0, 1))
-        buckets = [bucket(image, BASE, number) for number in range(8)]
+        buckets = [bucket(image, number) for number in range(8)]
         self.assertEqual(buckets, [(0, 0)] * 5 + [(fnv1a64(self.keys[4]), 4)] + [(0, 0)] * 2)
         self.assertEqual(field(image, "slot_highwater"), 4)
         reusing = deletes(BASE, self.keys[:3]) + put(BASE, self.keys[3])
@@ -396,8 +396,8 @@ class Readings(Case):
         self.assertEqual(full_check(self.image, BASE), FullCheck(0, 2, 1, 3))
         self.image[256 + 11] = self.image[256 + 31] = 0xEE
         self.image[352:384] = b"\xee" * 32
-        set_bucket(self.image, BASE, 2, 99, TOMBSTONE)
-        set_bucket(self.image, BASE, 3, 99, EMPTY)
+        set_bucket(self.image, 2, 99, TOMBSTONE)
+        set_bucket(self.image, 3, 99, EMPTY)
         self.assertEqual(full_check(self.image, BASE), FullCheck(0, 2, 1, 3))
 
     def test_reading_08_begin_and_checkpoint_leave_the_generation(self):
@@ -441,18 +441,18 @@ class Readings(Case):
         batch = put(o, first) + put(o, second) + delete(o, deleted) + put(o, first, 6)
         self.assertEqual(commit(image, o, batch), 0)
         self.assertEqual([lookup(image, o, key).slot for key in (second, first)], [1, 2])
-        self.assertEqual(bucket(image, o, 0), (fnv1a64(first), 3))
+        self.assertEqual(bucket(image, 0), (fnv1a64(first), 3))
         self.assert_refused(5, commit, image, o, delete(o, first) + put(o, deleted))
 
     def test_reading_13_bucket_past_highwater_and_the_last_of_b_buckets(self):
         for slot_plus1 in (4, 2**64 - 2):
-            set_bucket(self.image, BASE, 5, 99, slot_plus1)
+            set_bucket(self.image, 5, 99, slot_plus1)
             self.assert_refused(1, lookup, self.image, BASE, self.keys[4])
         o = BASE._replace(slot_capacity=1)
         key = next(keys_at_home(o, 1))
         image = begun(o, put(o, key, -3))
-        set_bucket(image, o, 1, 0, TOMBSTONE)
-        set_bucket(image, o, 0, fnv1a64(key), 1)
+        set_bucket(image, 1, 0, TOMBSTONE)
+        set_bucket(image, 0, fnv1a64(key), 1)
         self.assertEqual(lookup(image, o, key), Lookup(0, 0, -3, 2, b"ii"))
 
     def test_reading_14_role_0_on_dirty_is_1(self):
@@ -618,14 +618,14 @@ class Refusals(Case):
     def test_lookup_compares_hash64_and_all_key_bytes(self):
         stored, asked = keys_with_homes(BASE, (0, 0))
         image = begun(BASE, put(BASE, stored))
-        set_bucket(image, BASE, 0, fnv1a64(asked), 1)
+        set_bucket(image, 0, fnv1a64(asked), 1)
         self.assertEqual(lookup(image, BASE, asked), Lookup(9, buckets=2))
         self.assertEqual(lookup(image, BASE, stored), Lookup(9, buckets=2))
 
     def test_lookup_without_an_empty_bucket(self):
         image = begun(BASE)
         for number in range(8):
-            set_bucket(image, BASE, number, 0, TOMBSTONE)
+            set_bucket(image, number, 0, TOMBSTONE)
         self.assert_refused(1, lookup, image, BASE, b"abc")
 
     def test_lookup_and_match_input(self):
@@ -722,15 +722,15 @@ class FullCheckSentences(Case):
 
     def test_bucket_points_at_or_past_highwater(self):
         for slot_plus1 in (4, 5, 2**32, 2**64 - 2):
-            set_bucket(self.image, self.options, 2, fnv1a64(self.keys[2]), slot_plus1)
+            set_bucket(self.image, 2, fnv1a64(self.keys[2]), slot_plus1)
             self.assert_fails(self.image)
 
     def test_bucket_points_at_a_deleted_slot(self):
-        set_bucket(self.image, self.options, 1, fnv1a64(self.keys[1]), 2)
+        set_bucket(self.image, 1, fnv1a64(self.keys[1]), 2)
         self.assert_fails(self.image)
 
     def test_bucket_carries_another_hash(self):
-        set_bucket(self.image, self.options, 2, fnv1a64(self.keys[2]) ^ 2**63, 3)
+        set_bucket(self.image, 2, fnv1a64(self.keys[2]) ^ 2**63, 3)
         self.assert_fails(self.image)
 
     def test_meta_neither_0_nor_1(self):
@@ -739,24 +739,24 @@ class FullCheckSentences(Case):
             self.assert_fails(self.image)
 
     def test_live_slot_behind_an_empty_bucket(self):
-        set_bucket(self.image, self.options, 1, 0, EMPTY)
-        set_bucket(self.image, self.options, 7, 0, TOMBSTONE)
+        set_bucket(self.image, 1, 0, EMPTY)
+        set_bucket(self.image, 7, 0, TOMBSTONE)
         self.assert_fails(self.image)
 
     def test_live_slot_without_a_bucket(self):
-        set_bucket(self.image, self.options, 2, fnv1a64(self.keys[0]), 1)
+        set_bucket(self.image, 2, fnv1a64(self.keys[0]), 1)
         self.assert_fails(self.image)
 
     def test_two_live_slots_with_one_key(self):
         self.set_key(1, self.keys[0])
         set_meta(self.image, self.options, 1, 1)
-        set_bucket(self.image, self.options, 1, fnv1a64(self.keys[0]), 2)
+        set_bucket(self.image, 1, fnv1a64(self.keys[0]), 2)
         self.assert_fails(altered(self.image, live_count=3, bucket_used=3, bucket_tombstones=0))
 
     def test_counts_differ_from_the_header(self):
         self.assert_fails(altered(self.image, live_count=1, bucket_used=1))
         self.assert_fails(altered(self.image, bucket_tombstones=0))
-        set_bucket(self.image, self.options, 7, 0, TOMBSTONE)
+        set_bucket(self.image, 7, 0, TOMBSTONE)
         self.assert_fails(self.image)
 
     def test_keys_fall(self):
