@@ -280,7 +280,8 @@ class Table:
         return Bucket(*BUCKET.unpack_from(self.image, self.buckets_offset + 16 * number))
 
     def buckets(self):
-        return [self.bucket(number) for number in range(self.bucket_count)]
+        """All buckets as they are now, one by one: there may be millions."""
+        return map(Bucket._make, BUCKET.iter_unpack(self.image[self.buckets_offset:]))
 
     def write_bucket(self, number, hash64, slot_plus1):
         BUCKET.pack_into(self.image, self.buckets_offset + 16 * number, hash64, slot_plus1)
