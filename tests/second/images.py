@@ -16,6 +16,21 @@ def record_of(o, put, key, revision, index):
     return body.ljust(second.slot_size(o), b"\0")
 
 
+def least_buckets(o):
+    """The smallest power of two above the capacity."""
+    return 2**o.slot_capacity.bit_length()
+
+
+def fresh(o, buckets=None):
+    """An image as create leaves it; where a number of buckets is given, its header and its length are of that many."""
+    image = bytearray(second.total_size(o))
+    assert second.create(image, o) == 0
+    if buckets is not None:
+        second.write_fields(image, bucket_count=buckets)
+        image[second.buckets_offset(o, o.slot_capacity):] = bytes(16 * buckets)
+    return image
+
+
 class Images:
     def __init__(self, random):
         self.random = random

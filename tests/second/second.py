@@ -16,6 +16,7 @@ OpenCheck = namedtuple("OpenCheck", "answer user_flags user_data", defaults=(0, 
 Lookup = namedtuple("Lookup", "answer slot revision buckets index", defaults=(0, 0, 0, b""))
 FullCheck = namedtuple("FullCheck", "answer live tombstones probes", defaults=(0, 0, 0))
 Listed = namedtuple("Listed", "answer total written", defaults=(0, 0))
+Shape = namedtuple("Shape", "capacity buckets total", defaults=(0, 0, 0))
 Age = namedtuple("Age", "order distance")
 
 Slot = namedtuple("Slot", "meta key key_padding revision index index_padding")
@@ -64,12 +65,20 @@ def crc32c(data):
 
 # "Raise slot_capacity to 1,048,576 and the batch to 1,024 records." (CR 5)
 CAPACITY_LIMIT, BATCH_LIMIT = 1048576, 1024
+# "B may be any power of two above slot_capacity, up to 4,194,304" (CR 10)
+BUCKET_LIMIT = 4194304
 
 
-def options_fit(o):
+def allowed_to_open(o):
     # "key_size 1 to 64, index_size 0 to 256, slot_capacity 1 to [...], [...] ordered (0 or 1)"
+    # "Option capacity 0 now means 'as the header says'" (CR 10)
     return (1 <= o.key_size <= 64 and 0 <= o.index_size <= 256
-            and 1 <= o.slot_capacity <= CAPACITY_LIMIT and 0 <= o.ordered <= 1 and 0 <= o.role <= 2)
+            and 0 <= o.slot_capacity <= CAPACITY_LIMIT and 0 <= o.ordered <= 1 and 0 <= o.role <= 2)
+
+
+def allowed_to_create(o):
+    # "create [...] answers 7 to capacity 0." (CR 10)
+    return allowed_to_open(o) and o.slot_capacity != 0
 
 
 def to_multiple_of_8(size):
@@ -84,21 +93,28 @@ def slot_size(o):
     return to_multiple_of_8(revision_offset(o) + 8 + o.index_size)
 
 
+def buckets_offset(o, capacity):
+    return 256 + capacity * slot_size(o)
+
+
+def total(o, capacity, buckets):
+    # "Total size: 256 + capacity x slot_size + 16 x B."
+    return 256 + capacity * slot_size(o) + 16 * buckets
+
+
 def bucket_count(o):
+    """Create's B, by the option alone."""
     # "bucket_count B is the smallest power of two not below twice slot_capacity."
+    # "create keeps 01's sizing" (CR 10)
     count = 1
     while count < 2 * o.slot_capacity:
         count *= 2
     return count
 
 
-def buckets_offset(o):
-    return 256 + o.slot_capacity * slot_size(o)
-
-
 def total_size(o):
-    # "Total size: 256 + capacity x slot_size + 16 x B."
-    return 256 + o.slot_capacity * slot_size(o) + 16 * bucket_count(o)
+    """Create's total, by the option alone."""
+    return total(o, o.slot_capacity, bucket_count(o))
 
 
 # "The header is 256 bytes; its fields are one table of name, offset and width"
@@ -163,9 +179,13 @@ def write_fields(image, **values):
     write_field(image, "header_crc32c", header_crc32c(image))
 
 
+def is_power_of_two(number):
+    return number > 0 and number & (number - 1) == 0
+
+
 def header_tests(image, o):
     # "1. Options outside the sizes, ordered above 1, or role above 2: 7."
-    yield not options_fit(o), 7
+    yield not allowed_to_open(o), 7
     # "2. Length 0: 10. Length 1 to 255: 1."
     yield len(image) == 0, 10
     yield len(image) <= 255, 1
@@ -184,14 +204,17 @@ def header_tests(image, o):
     # "8. key_size, index_size, slot_size, slot_capacity, user_version or ordered flag not as the
     # options say: 2."
     yield (h.key_size, h.index_size, h.slot_size) != (o.key_size, o.index_size, slot_size(o)), 2
-    yield (h.slot_capacity, h.user_version) != (o.slot_capacity, o.user_version), 2
-    yield h.flags != o.ordered, 2
-    # "9. bucket_count below 2 or no power of two: 1. Another power of two than the rule's: 2."
-    yield h.bucket_count < 2 or h.bucket_count & (h.bucket_count - 1) != 0, 1
-    yield h.bucket_count != bucket_count(o), 2
+    yield (h.user_version, h.flags) != (o.user_version, o.ordered), 2
+    # "Option capacity 0 now means 'as the header says', within 1 to 1,048,576, else 2." (CR 10)
+    yield o.slot_capacity == 0 and not 1 <= h.slot_capacity <= CAPACITY_LIMIT, 2
+    yield o.slot_capacity != 0 and h.slot_capacity != o.slot_capacity, 2
+    # "9. B may be any power of two above slot_capacity, up to 4,194,304; a larger power of two is
+    # 2, any other B 1." (CR 10)
+    yield is_power_of_two(h.bucket_count) and h.bucket_count > BUCKET_LIMIT, 2
+    yield not is_power_of_two(h.bucket_count) or h.bucket_count <= h.slot_capacity, 1
     # "10. An offset wrong, or a length other than the total: 1." (CR 8)
-    yield h.slots_offset != 256 or h.buckets_offset != buckets_offset(o), 1
-    yield len(image) != total_size(o), 1
+    yield h.slots_offset != 256 or h.buckets_offset != buckets_offset(o, h.slot_capacity), 1
+    yield len(image) != total(o, h.slot_capacity, h.bucket_count), 1
     # "11. live_count = bucket_used, and bucket_used + bucket_tombstones <= slot_highwater <=
     # slot_capacity, else 1."
     yield h.live_count != h.bucket_used, 1
@@ -213,9 +236,28 @@ def open_check(image, o):
     return OpenCheck(0, field(image, "user_flags"), user_data)
 
 
+def image_shape(image, o):
+    """The shape that the judged header carries, for C; all 0 where the header test does not give 0."""
+    if header_test(image, o):
+        return Shape()
+    capacity, buckets = field(image, "slot_capacity"), field(image, "bucket_count")
+    return Shape(capacity, buckets, total(o, capacity, buckets))
+
+
+def places(o, slot):
+    """Create's total, and where a slot's key and index stand, for C; 0 where the options are not allowed or there is no such
+    slot."""
+    created = total_size(o) if allowed_to_create(o) else 0
+    # "Option capacity 0 now means 'as the header says', within 1 to 1,048,576" (CR 10)
+    if not allowed_to_open(o) or slot >= (o.slot_capacity or CAPACITY_LIMIT):
+        return created, 0, 0
+    at = 256 + slot * slot_size(o)
+    return created, at + 8, at + revision_offset(o) + 8
+
+
 def create(buffer, o):
     # "Test 1; lent buffer shorter than the total: 11."
-    if not options_fit(o):
+    if not allowed_to_create(o):
         return 7
     if len(buffer) < total_size(o):
         return 11
@@ -226,7 +268,7 @@ def create(buffer, o):
         buffer, magic=MAGIC, version=1, header_size=256, key_size=o.key_size,
         index_size=o.index_size, slot_size=slot_size(o), hash_alg=1, flags=o.ordered,
         slot_capacity=o.slot_capacity, user_version=o.user_version, bucket_count=bucket_count(o),
-        slots_offset=256, buckets_offset=buckets_offset(o), state=CLEAN)
+        slots_offset=256, buckets_offset=buckets_offset(o, o.slot_capacity), state=CLEAN)
     return 0
 
 
@@ -258,8 +300,10 @@ class Table:
         self.image = image
         self.options = o
         self.slot_size = slot_size(o)
-        self.bucket_count = bucket_count(o)
-        self.buckets_offset = buckets_offset(o)
+        # "The judged header therefore carries capacity, B and offsets to every later call." (CR 10)
+        self.capacity = field(image, "slot_capacity")
+        self.bucket_count = field(image, "bucket_count")
+        self.buckets_offset = field(image, "buckets_offset")
         self.highwater = field(image, "slot_highwater")
 
     def slot_offset(self, number):
@@ -507,7 +551,7 @@ def commit_tests(image, o, batch):
     table = Table(image, o)
     new_keys = actions(table, batch).new_keys
     # "New keys beyond capacity - highwater: 5."
-    yield len(new_keys) > o.slot_capacity - table.highwater, 5
+    yield len(new_keys) > table.capacity - table.highwater, 5
     # "Ordered, highwater above 0, and some new key below the key of slot highwater - 1, live or
     # deleted: 6."
     yield (o.ordered == 1 and table.highwater > 0

@@ -7,12 +7,13 @@ import struct
 import unittest
 from collections import namedtuple
 
+from images import fresh, least_buckets
 from second import (
     CLEAN, DIRTY, EMPTY, INVALIDATED, TOMBSTONE, Age, FullCheck, Listed, Lookup, OpenCheck, Options,
-    begin, bucket_count, buckets_offset, checkpoint, commit, crc32c, crc32c_bitwise, create, field,
-    fnv1a64, full_check, full_check_results, fullcheck_program, header_crc32c, header_test,
-    invalidate, lookup, lookup_results, match, match_results, open_check, revision_age, scan,
-    scan_results, set_user_fields, slot_size, total_size, write_fields)
+    Shape, begin, bucket_count, buckets_offset, checkpoint, commit, crc32c, crc32c_bitwise, create,
+    field, fnv1a64, full_check, full_check_results, fullcheck_program, header_crc32c, header_test,
+    image_shape, invalidate, lookup, lookup_results, match, match_results, open_check, places,
+    revision_age, scan, scan_results, set_user_fields, slot_size, total, total_size, write_fields)
 
 BASE = Options(key_size=3, index_size=2, slot_capacity=4, user_version=7, ordered=0, role=2)
 BENCH = Options(key_size=12, index_size=20, slot_capacity=512, user_version=1, ordered=0, role=2)
@@ -23,14 +24,8 @@ READING_CALLS = [(open_check, ()), (lookup, (b"abc",)), (full_check, ()), (scan,
                  (match, (0, 8, b"a", 0, 9, [5] * 9))]
 
 
-def fresh(o):
-    image = bytearray(total_size(o))
-    assert create(image, o) == 0
-    return image
-
-
-def begun(o, *batches):
-    image = fresh(o)
+def begun(o, *batches, buckets=None):
+    image = fresh(o, buckets)
     assert begin(image, o) == 0
     for batch in batches:
         assert commit(image, o, batch) == 0
@@ -58,14 +53,14 @@ def deletes(o, keys):
     return b"".join(delete(o, key) for key in keys)
 
 
-def keys_at_home(o, home):
-    """Rising keys whose home bucket is the given one."""
+def keys_at_home(o, home, buckets=None):
+    """Rising keys whose home bucket is the given one, among the rule's number of buckets or another."""
     keys = (number.to_bytes(o.key_size, "big") for number in itertools.count())
-    return (key for key in keys if fnv1a64(key) % bucket_count(o) == home)
+    return (key for key in keys if fnv1a64(key) % (buckets or bucket_count(o)) == home)
 
 
-def keys_with_homes(o, homes):
-    sources = {home: keys_at_home(o, home) for home in homes}
+def keys_with_homes(o, homes, buckets=None):
+    sources = {home: keys_at_home(o, home, buckets) for home in homes}
     return [next(sources[home]) for home in homes]
 
 
@@ -130,7 +125,7 @@ class BenchExamples(Case):
         self.assertEqual(slot_size(BASE._replace(key_size=1, index_size=0)), 24)
         self.assertEqual(slot_size(BENCH), 56)
         self.assertEqual(bucket_count(BENCH), 1024)
-        self.assertEqual(buckets_offset(BENCH), 28928)
+        self.assertEqual(buckets_offset(BENCH, 512), 28928)
         self.assertEqual(total_size(BENCH), 45312)
         self.assertEqual(bucket_count(BASE._replace(slot_capacity=1)), 2)
         self.assertEqual(bucket_count(BASE._replace(slot_capacity=3)), 8)
@@ -180,13 +175,13 @@ class BenchExamples(Case):
 
 
 class Bytes(Case):
-    def header(self, ordered=0, highwater=0, live=0, generation=0, tombstones=0, state=CLEAN,
-               user_flags=0, user_data=bytes(64)):
+    def header(self, ordered=0, highwater=0, live=0, generation=0, buckets=8, tombstones=0,
+               state=CLEAN, user_flags=0, user_data=bytes(64)):
         """BASE's header, packed by document 01's table without the program's."""
         def packed(generation, crc):
             return struct.pack(
                 "<4s7I10QIIQ64s64s", b"SLC1", 1, 256, 3, 2, 32, 1, ordered, 4, highwater, live, 7,
-                generation, 8, live, tombstones, 256, 384, crc, state, user_flags, user_data,
+                generation, buckets, live, tombstones, 256, 384, crc, state, user_flags, user_data,
                 bytes(64))
         return packed(generation, crc32c_bitwise(packed(0, 0)))
 
@@ -199,18 +194,20 @@ class Bytes(Case):
         self.assertEqual(header_test(buffer[:-5], o), 0)
 
     def test_writing_calls(self):
-        first, second, third = keys_with_homes(BASE, (7, 7, 2))
-        image = begun(BASE, put(BASE, first, -1) + put(BASE, second, 2) + put(BASE, third, 3),
-                      delete(BASE, first) + put(BASE, third, 4, b"zz"))
-        self.assertEqual(set_user_fields(image, BASE, 2**63 + 1, bytes(range(64))), 0)
-        header = self.header(highwater=3, live=2, generation=6, tombstones=1, state=DIRTY,
-                             user_flags=2**63 + 1, user_data=bytes(range(64)))
-        slots = (record(0, first, -1, b"ii") + put(BASE, second, 2) + put(BASE, third, 4, b"zz")
-                 + bytes(32))
-        buckets = struct.pack("<16Q", fnv1a64(second), 2, 0, 0, fnv1a64(third), 3, *[0] * 8,
-                              fnv1a64(first), TOMBSTONE)
-        self.assertEqual(image, header + slots + buckets)
-        self.assertEqual(header_crc32c(image), header_crc32c(altered(image, generation=8)))
+        """With the rule's B, and with two others (CR 10)."""
+        for count in (8, 16, 64):
+            first, second, third = keys_with_homes(BASE, (count - 1, count - 1, 2), count)
+            image = begun(BASE, put(BASE, first, -1) + put(BASE, second, 2) + put(BASE, third, 3),
+                          delete(BASE, first) + put(BASE, third, 4, b"zz"), buckets=count)
+            self.assertEqual(set_user_fields(image, BASE, 2**63 + 1, bytes(range(64))), 0)
+            header = self.header(highwater=3, live=2, generation=6, buckets=count, tombstones=1,
+                                 state=DIRTY, user_flags=2**63 + 1, user_data=bytes(range(64)))
+            slots = (record(0, first, -1, b"ii") + put(BASE, second, 2) + put(BASE, third, 4, b"zz")
+                     + bytes(32))
+            buckets = struct.pack("<6Q", fnv1a64(second), 2, 0, 0, fnv1a64(third), 3)
+            buckets += bytes(16 * (count - 4)) + struct.pack("<2Q", fnv1a64(first), TOMBSTONE)
+            self.assertEqual(image, header + slots + buckets)
+            self.assertEqual(header_crc32c(image), header_crc32c(altered(image, generation=8)))
 
 
 class Model:
@@ -256,10 +253,10 @@ class Histories(Case):
         tombstones = field(image, "bucket_tombstones")
         self.assertEqual(checked, FullCheck(0, len(model.map), tombstones, probes))
         slots = sorted(map(model.slot, model.map))
-        numbers = [77] * reader.slot_capacity
-        listed = scan(image, reader, 0, reader.slot_capacity, numbers)
+        numbers = [77] * model.options.slot_capacity
+        listed = scan(image, reader, 0, len(numbers), numbers)
         self.assertEqual(listed, Listed(0, len(slots), len(slots)))
-        self.assertEqual(numbers, slots + [77] * (reader.slot_capacity - len(slots)))
+        self.assertEqual(numbers, slots + [77] * (len(numbers) - len(slots)))
 
     def operations(self, chance, o, model, keys):
         if o.ordered and model.given_out and chance.random() < 0.9:
@@ -269,45 +266,170 @@ class Histories(Case):
         entries = [(revision, chance.randbytes(o.index_size)) for revision in revisions]
         return [(chance.choice(keys), chance.choice((entry, None))) for entry in entries]
 
-    def history(self, chance, o, keys):
-        image, model, generation = begun(o), Model(o), 0
+    def history(self, chance, o, buckets, keys):
+        """Calls with the capacity given, or left to the header (CR 10)."""
+        image, model, generation = begun(o, buckets=buckets), Model(o), 0
+        length = len(image)
         answers = set()
         for _ in range(25):
             operations = self.operations(chance, o, model, keys)
             batch = b"".join(put(o, key, *entry) if entry else delete(o, key)
                              for key, entry in operations)
             before = bytes(image)
-            answer = commit(image, o, batch)
+            asked = o._replace(slot_capacity=chance.choice((o.slot_capacity, 0)))
+            answer = commit(image, asked, batch)
             self.assertEqual(answer, model.commit(operations))
             answers.add(answer)
             if answer:
                 self.assertEqual(image, before)
             generation += 0 if answer else 2
             self.assertEqual(field(image, "generation"), generation)
-            self.compare(image, o._replace(role=chance.choice((1, 2))), model, keys)
+            self.assertEqual(image_shape(image, asked), Shape(o.slot_capacity, buckets, length))
+            self.assertLessEqual(4 * field(image, "bucket_tombstones"), buckets)
+            self.compare(image, asked._replace(role=chance.choice((1, 2))), model, keys)
             if chance.random() < 0.2:
                 flags, data = chance.getrandbits(64), chance.randbytes(64)
-                self.assertEqual(set_user_fields(image, o, flags, data), 0)
-                self.assertEqual(checkpoint(image, o), 0)
-                reader = o._replace(role=0)
+                self.assertEqual(set_user_fields(image, asked, flags, data), 0)
+                self.assertEqual(checkpoint(image, asked), 0)
+                reader = asked._replace(role=0)
                 self.assertEqual(open_check(image, reader), OpenCheck(0, flags, data))
                 self.compare(image, reader, model, keys)
-                self.assertEqual(begin(image, o), 0)
+                self.assertEqual(begin(image, asked), 0)
                 generation += 2
         return answers
 
     def test_against_a_dict(self):
         chance = random.Random(2)
         answers = set()
-        for ordered, (key_size, index_size, capacity) in itertools.product(
-                (0, 1), ((1, 0, 1), (1, 0, 3), (2, 3, 4), (8, 8, 6), (9, 1, 16), (12, 20, 40))):
+        for ordered, (key_size, index_size, capacity, buckets) in itertools.product(
+                (0, 1), ((1, 0, 1, 2), (1, 0, 1, 8), (1, 0, 3, 4), (1, 0, 3, 8), (2, 3, 4, 8), (8, 8, 6, 8),
+                         (8, 8, 6, 16), (9, 1, 16, 32), (9, 1, 16, 128), (12, 20, 40, 64), (12, 20, 40, 128))):
             o = Options(key_size, index_size, capacity, 3, ordered, 2)
-            buckets = bucket_count(o)
             for homes in (range(buckets), (buckets - 1, 0), (buckets - 1,)):
-                sources = {home: keys_at_home(o, home) for home in homes}
+                sources = {home: keys_at_home(o, home, buckets) for home in homes}
                 keys = sorted(next(sources[chance.choice(homes)]) for _ in range(capacity + 5))
-                answers |= self.history(chance, o, keys)
+                answers |= self.history(chance, o, buckets, keys)
         self.assertEqual(answers, {0, 5, 6})
+
+
+class ForeignShapes(Case):
+    """CR 10: the capacity left to the header, and numbers of buckets other than the rule's."""
+
+    def assert_answers(self, answer, image, o):
+        """Under every role, with the capacity given and left to the header."""
+        for role, capacity in itertools.product(range(3), (o.slot_capacity, 0)):
+            self.assertEqual(header_test(image, o._replace(role=role, slot_capacity=capacity)), answer)
+
+    def test_buckets_beside_the_capacity(self):
+        for capacity, answers in (
+                (512, {256: 1, 512: 1, 1000: 1, 1024: 0, 2048: 0, 4096: 0}),
+                (1, {0: 1, 1: 1, 2: 0, 3: 1, 4: 0, 5: 1, 6: 1, 8: 0, 16: 0, 1024: 0, 65536: 0}),
+                (2, {1: 1, 2: 1, 3: 1, 4: 0, 6: 1, 8: 0}),
+                (3, {0: 1, 1: 1, 2: 1, 3: 1, 4: 0, 5: 1, 6: 1, 7: 1, 8: 0, 16: 0, 32: 0, 64: 0}),
+                (4, {2: 1, 4: 1, 5: 1, 6: 1, 8: 0}),
+                (5, {4: 1, 6: 1, 8: 0, 16: 0})):
+            o = BASE._replace(slot_capacity=capacity)
+            for buckets, answer in answers.items():
+                with self.subTest(capacity=capacity, buckets=buckets):
+                    self.assert_answers(answer, fresh(o, buckets), o)
+
+    def test_the_most_buckets(self):
+        one, most = Options(1, 0, 1, 0, 0, 2), Options(1, 0, 1048576, 0, 0, 2)
+        for o, buckets, answer in ((one, 2097152, 0), (one, 4194303, 1), (one, 4194304, 0), (one, 4194305, 1),
+                                   (most, 1048576, 1), (most, 2097152, 0), (most, 4194304, 0)):
+            self.assert_answers(answer, fresh(o, buckets), o)
+        for o, buckets in itertools.product((one, most), (8388608, 2**32, 2**63)):
+            self.assert_answers(2, altered(fresh(o), bucket_count=buckets), o)
+
+    def test_the_header_says_the_capacity(self):
+        """2 outside the sizes: behind INVALIDATED's 3, and before B."""
+        asked = BASE._replace(slot_capacity=0)
+        for capacity, buckets in itertools.product((0, 1048577, 2**32, 2**64 - 1), (0, 3, 8, 8388608)):
+            image = altered(fresh(BASE), slot_capacity=capacity, bucket_count=buckets)
+            self.assertEqual(header_test(image, asked), 2)
+            self.assertEqual(header_test(altered(image, state=INVALIDATED), asked), 3)
+        # B 8, and slots of 32 bytes
+        for capacity, offset, length, answer in (
+                (3, 352, 480, 0), (5, 416, 544, 0), (7, 480, 608, 0), (7, 384, 608, 1), (7, 480, 512, 1), (8, 512, 640, 1)):
+            image = altered(fresh(BASE), slot_capacity=capacity, buckets_offset=offset).ljust(length, b"\0")[:length]
+            self.assertEqual([header_test(image, asked), header_test(image, BASE)], [answer, 2])
+
+    def test_capacity_0_answers_as_the_capacity(self):
+        for image, role in itertools.product((fresh(BASE, 64), begun(BASE, put(BASE, b"abc"), buckets=64)), range(3)):
+            for call, arguments in WRITING_CALLS + READING_CALLS:
+                given, left = (copy.deepcopy((image, o, *arguments)) for o in (
+                    BASE._replace(role=role), BASE._replace(role=role, slot_capacity=0)))
+                self.assertEqual(call(*given), call(*left))
+                self.assertEqual((given[0], given[2:]), (left[0], left[2:]))
+
+    def test_room_for_new_keys(self):
+        for capacity, buckets in ((1, 2), (1, 64), (3, 4), (3, 64), (5, 8)):
+            o = BASE._replace(slot_capacity=capacity)
+            keys = keys_with_homes(o, [1] * (capacity + 1), buckets)
+            for asked in (o, o._replace(slot_capacity=0)):
+                image = begun(o, puts(o, keys[:capacity - 1]), buckets=buckets)
+                self.assert_refused(5, commit, image, asked, puts(o, keys[capacity - 1:]))
+                self.assertEqual(commit(image, asked, puts(o, keys[:capacity])), 0)
+                self.assert_refused(5, commit, image, asked, put(o, keys[capacity]))
+
+    def test_tombstones_up_to_the_rebuild(self):
+        """As many as stay, after each delete; "if 4 x tombstones > B, the index is rebuilt"."""
+        for capacity, buckets, stay in (
+                (1, 2, [0]), (1, 4, [1]), (2, 4, [1, 0]), (2, 8, [1, 2]), (3, 4, [1, 0, 1]), (3, 8, [1, 2, 0]),
+                (3, 16, [1, 2, 3]), (4, 8, [1, 2, 0, 1]), (4, 16, [1, 2, 3, 4]), (5, 8, [1, 2, 0, 1, 2]),
+                (5, 16, [1, 2, 3, 4, 0]), (5, 32, [1, 2, 3, 4, 5])):
+            o = BASE._replace(slot_capacity=capacity)
+            keys = keys_with_homes(o, [buckets - 1] * capacity, buckets)
+            image = begun(o, puts(o, keys), buckets=buckets)
+            for deleted, tombstones in enumerate(stay, start=1):
+                self.assertEqual(commit(image, o, delete(o, keys[deleted - 1])), 0)
+                live = capacity - deleted
+                # all have one home: tombstones stand before the live ones
+                probes = sum(range(tombstones + 1, tombstones + live + 1))
+                self.assertEqual(full_check(image, o), FullCheck(0, live, tombstones, probes))
+            self.assertEqual(image_shape(image, o), Shape(capacity, buckets, 256 + 32 * capacity + 16 * buckets))
+
+    def test_lookup_goes_through_all_buckets(self):
+        o = BASE._replace(slot_capacity=1)
+        first, other = keys_with_homes(o, (6, 6), 8)
+        image = begun(o, put(o, first, -3), buckets=8)
+        for number in range(8):
+            set_bucket(image, number, 0, TOMBSTONE)
+        self.assert_refused(1, lookup, image, o, first)
+        set_bucket(image, 5, fnv1a64(first), 1)
+        self.assertEqual(lookup(image, o, first), Lookup(0, 0, -3, 8, b"ii"))
+        self.assert_refused(1, lookup, image, o, other)
+        set_bucket(image, 5, 0, EMPTY)
+        self.assertEqual(lookup(image, o, first), Lookup(9, buckets=8))
+
+    def test_program(self):
+        for buckets, length, answer in ((512, 37120, 1), (1024, 45312, 0), (2048, 61696, 0), (4096, 94464, 7)):
+            image = bytes(fresh(BENCH, buckets))
+            self.assertEqual(len(image), length)
+            self.assertEqual(fullcheck_program(image), b"answer %d live 0 tombstones 0 probes 0\n" % answer)
+
+    def test_shape(self):
+        for o, buckets, shape in (
+                (BENCH, 1024, (512, 1024, 45312)), (BENCH, 2048, (512, 2048, 61696)), (BASE, 8, (4, 8, 512)),
+                (BASE, 4194304, (4, 4194304, 67109248)), (BASE._replace(slot_capacity=3), 4, (3, 4, 416))):
+            image = fresh(o, buckets)
+            for role, capacity in itertools.product(range(3), (o.slot_capacity, 0)):
+                self.assertEqual(image_shape(image, o._replace(role=role, slot_capacity=capacity)), shape)
+        for fault in FAULTS:
+            self.assertEqual(image_shape(*faulty(fault)), (0, 0, 0))
+        self.assertEqual(total(BASE._replace(key_size=64, index_size=256), 1048576, 4194304), 419430656)
+
+    def test_places(self):
+        """Key at 8 and index at 32 of a slot of 56 bytes."""
+        left = BENCH._replace(slot_capacity=0)
+        for slot, given, asked in (
+                (0, (45312, 264, 288), (0, 264, 288)), (511, (45312, 28880, 28904), (0, 28880, 28904)),
+                (512, (45312, 0, 0), (0, 28936, 28960)), (1048575, (45312, 0, 0), (0, 58720464, 58720488)),
+                (1048576, (45312, 0, 0), (0, 0, 0)), (2**64 - 1, (45312, 0, 0), (0, 0, 0))):
+            self.assertEqual([places(BENCH, slot), places(left, slot)], [given, asked])
+        for fault in FAULTS:
+            if fault.test == 1:
+                self.assertEqual(places(BENCH._replace(**fault.options), 0), (0, 0, 0))
 
 
 class SumLaw(Case):
@@ -320,16 +442,16 @@ class SumLaw(Case):
 
     def test_probes_follow_from_the_homes_alone(self):
         chance = random.Random(3)
-        for capacity, _ in itertools.product((1, 2, 3, 4, 7, 8), range(12)):
+        for capacity, times, _ in itertools.product((1, 2, 3, 4, 7, 8), (1, 2, 4), range(5)):
             o = Options(2, 0, capacity, 0, 0, 2)
-            buckets = bucket_count(o)
+            buckets = times * least_buckets(o)
             few = chance.sample(range(buckets), chance.randint(1, buckets))
             homes = chance.choices(few, k=chance.randint(0, capacity))
             overflows = sum(self.overflow(homes, buckets, end) for end in range(buckets))
-            keys = keys_with_homes(o, homes)
+            keys = keys_with_homes(o, homes, buckets)
             for _ in range(3):
                 chance.shuffle(keys)
-                image = begun(o, puts(o, keys))
+                image = begun(o, puts(o, keys), buckets=buckets)
                 expected = FullCheck(0, len(homes), 0, len(homes) + overflows)
                 self.assertEqual(full_check(image, o), expected)
 
@@ -524,9 +646,9 @@ def field_faults(test, number, *fields):
 
 FAULTS = [
     *(Fault(1, 7, {name: value}) for name, value in (
-        ("key_size", 0), ("key_size", 65), ("index_size", 257), ("slot_capacity", 0),
-        ("slot_capacity", 1048577), ("ordered", 2), ("role", 3), ("key_size", 2**64 - 1),
-        ("index_size", 2**64 - 1), ("slot_capacity", 2**64 - 1), ("role", 2**64 - 1))),
+        ("key_size", 0), ("key_size", 65), ("index_size", 257), ("slot_capacity", 1048577),
+        ("ordered", 2), ("role", 3), ("key_size", 2**64 - 1), ("index_size", 2**64 - 1),
+        ("slot_capacity", 2**64 - 1), ("role", 2**64 - 1))),
     Fault(2, 10, length=0), Fault(2, 1, length=1), Fault(2, 1, length=255),
     *field_faults(3, 2, {"magic": 0}, {"version": 2}, {"header_size": 128}, {"hash_alg": 0}),
     Fault(4, 4, {"role": 1}, {"generation": 5}), Fault(4, 1, {"role": 0}, {"generation": 5}),
@@ -537,9 +659,13 @@ FAULTS = [
     Fault(7, 3, fields={"state": INVALIDATED}),
     *field_faults(8, 2, {"key_size": 4}, {"index_size": 3}, {"slot_size": 40}, {"slot_capacity": 3},
                   {"user_version": 8}, {"flags": 1}),
-    *field_faults(9, 1, {"bucket_count": 0}, {"bucket_count": 1}, {"bucket_count": 12}),
-    *field_faults(9, 2, {"bucket_count": 4}, {"bucket_count": 16}, {"bucket_count": 2**63}),
-    *field_faults(10, 1, {"slots_offset": 264}, {"buckets_offset": 392}),
+    *(Fault(8, 2, {"slot_capacity": 0}, {"slot_capacity": said}) for said in (0, 1048577, 2**64 - 1)),
+    *field_faults(9, 1, *({"bucket_count": count} for count in (0, 1, 2, 3, 4, 6, 12, 4194305, 2**64 - 1))),
+    *field_faults(9, 2, {"bucket_count": 8388608}, {"bucket_count": 2**63}),
+    *(Fault(9, 1, {"slot_capacity": 0}, {"slot_capacity": said}) for said in (8, 1048576)),
+    *field_faults(10, 1, {"slots_offset": 264}, {"buckets_offset": 392}, {"bucket_count": 16},
+                  {"bucket_count": 4194304}),
+    *(Fault(10, 1, {"slot_capacity": 0}, {"slot_capacity": said}) for said in (3, 5)),
     *(Fault(10, 1, length=length) for length in (
         256, total_size(BASE) - 1, total_size(BASE) + 1, total_size(BASE) + 8, 2 * total_size(BASE))),
     *field_faults(11, 1, {"live_count": 1, "slot_highwater": 1}, {"bucket_tombstones": 1},
@@ -577,6 +703,9 @@ class Refusals(Case):
         for fault in FAULTS:
             if fault.test == 1:
                 self.assert_refused(7, create, bytearray(9), BASE._replace(**fault.options))
+        # "create [...] answers 7 to capacity 0." (CR 10)
+        for length in (0, 9, total_size(BASE)):
+            self.assert_refused(7, create, bytearray(length), BASE._replace(slot_capacity=0))
         self.assert_refused(11, create, bytearray(total_size(BASE) - 1), BASE)
 
     def test_writing_calls_by_role(self):
@@ -770,16 +899,16 @@ class FullCheckSentences(Case):
 
 class Damage(Case):
     def images(self, chance):
-        for ordered, (key_size, index_size, capacity) in itertools.product(
-                (0, 1), ((1, 0, 1), (3, 2, 4), (8, 0, 6), (12, 20, 12))):
+        for ordered, (key_size, index_size, capacity, buckets) in itertools.product(
+                (0, 1), ((1, 0, 1, 2), (1, 0, 1, 8), (3, 2, 4, 8), (8, 0, 6, 8), (8, 0, 6, 16), (12, 20, 12, 32))):
             o = Options(key_size, index_size, capacity, 9, ordered, 2)
             keys = sorted({chance.randbytes(key_size) for _ in range(capacity)})
-            image = begun(o, puts(o, keys[:-1]), deletes(o, keys[:capacity // 4]))
+            image = begun(o, puts(o, keys[:-1]), deletes(o, keys[:capacity // 4]), buckets=buckets)
             yield image, o, keys
 
     def damaged(self, chance, image, o):
-        image = bytearray(image)
-        areas = ((0, 256), (0x20, 0x78), (256, buckets_offset(o)), (buckets_offset(o), len(image)))
+        image, behind = bytearray(image), field(image, "buckets_offset")
+        areas = ((0, 256), (0x20, 0x78), (256, behind), (behind, len(image)))
         for _ in range(chance.randint(1, 3)):
             offset = chance.randrange(*chance.choice(areas))
             if chance.random() < 0.4:
@@ -814,10 +943,10 @@ class Damage(Case):
             yield result.answer
 
     def assert_demand_3(self, image, o, keys, checked):
-        slots = [5] * o.slot_capacity
-        self.assertEqual(scan(image, o, 0, o.slot_capacity, slots).total, checked.live)
+        slots = [5] * checked.live
+        self.assertEqual(scan(image, o, 0, checked.live, slots).total, checked.live)
         probes = 0
-        for slot in slots[:checked.live]:
+        for slot in slots:
             offset = 256 + slot * slot_size(o) + 8
             found = lookup(image, o, image[offset:offset + o.key_size])
             self.assertEqual((found.answer, found.slot), (0, slot))
@@ -832,10 +961,11 @@ class Damage(Case):
         images = list(self.images(chance))
         seen = set()
         for _ in range(1000):
-            image, o, keys = chance.choice(images)
-            image, o = self.damaged(chance, image, o), o._replace(role=chance.choice((0, 1, 2, 2)))
+            sound, o, keys = chance.choice(images)
+            image = self.damaged(chance, sound, o)
+            o = o._replace(role=chance.choice((0, 1, 2, 2)), slot_capacity=chance.choice((o.slot_capacity, 0)))
             list(self.answers(image, o, keys))
-            if len(image) == total_size(o):
+            if len(image) == len(sound):
                 # "an image with half of another behind it" (CR 8): 1, or an earlier test's number
                 longer = image + image[:chance.choice((1, 8, len(image) // 2, len(image)))]
                 self.assertEqual(set(self.answers(longer, o, keys)), {header_test(image, o) or 1})
