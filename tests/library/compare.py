@@ -110,6 +110,7 @@ def listings(comparison, image, o):
 def reads(comparison, image, o):
     """Every call that reads."""
     comparison.same("open_check", image, o)
+    comparison.same("image_shape", image, o)
     comparison.same("full_check", image, o)
     comparison.same("full_check_results", image, o, comparison.results())
     lookups(comparison, image, o)

@@ -34,6 +34,9 @@ REVISION_DISTANCE = declared("revision_distance", U64, I64, I64)
 OPEN_CHECK = declared("open_check", U32, *IMAGE)
 USER_FLAGS = declared("user_flags", U64, *IMAGE)
 USER_DATA = declared("user_data", U32, *IMAGE, *SLICE)
+IMAGE_CAPACITY = declared("image_capacity", U64, *IMAGE)
+IMAGE_BUCKETS = declared("image_buckets", U64, *IMAGE)
+IMAGE_TOTAL = declared("image_total", U64, *IMAGE)
 LOOKUP = declared("lookup", U32, *IMAGE, *SLICE)
 LOOKUP_SLOT = declared("lookup_slot", U64, *IMAGE, *SLICE)
 LOOKUP_REVISION = declared("lookup_revision", I64, *IMAGE, *SLICE)
@@ -122,6 +125,11 @@ def open_check(image, o):
     if USER_DATA(*lent_image, *o, room, 64) != answer:
         raise AssertionError("the two calls give different answers")
     return second.OpenCheck(answer, USER_FLAGS(*lent_image, *o), bytes(user_data))
+
+
+def image_shape(image, o):
+    call = (*lent(image), *o)
+    return second.Shape(IMAGE_CAPACITY(*call), IMAGE_BUCKETS(*call), IMAGE_TOTAL(*call))
 
 
 def lookup(image, o, key):
