@@ -15,7 +15,7 @@ sys.path.append(sys.path[0] + "/../second")
 
 import native
 import second
-from images import Images, record_of
+from images import Images, fresh, record_of
 
 CRATES = os.path.abspath(os.path.join(os.path.dirname(__file__), "..", "..", "crates"))
 # the calls, by what demand 1 names them
@@ -184,6 +184,12 @@ def malformed(comparison, o, batch):
     return bytes(batch)
 
 
+def committed(comparison, image, o, batch):
+    """The commit compared, the capacity given or left to the header; then it is made."""
+    comparison.same("commit", image, o._replace(slot_capacity=comparison.random.choice((o.slot_capacity, 0))), batch)
+    second.commit(image, o, batch)
+
+
 def histories(comparison):
     """Long histories of commits on tiny shapes, the library's image and the second program's compared after each."""
     for _ in range(1400):
@@ -195,8 +201,7 @@ def histories(comparison):
             batch = comparison.images.batch(o, 3)
             if comparison.random.random() < 0.1:
                 batch = malformed(comparison, o, batch)
-            comparison.same("commit", image, o, batch)
-            second.commit(image, o, batch)
+            committed(comparison, image, o, batch)
 
 
 def commits(comparison):
@@ -210,26 +215,32 @@ def commits(comparison):
             comparison.same("commit", image, comparison.images.asked(o), comparison.images.batch(o, most))
 
 
+def every_call(comparison, image, o):
+    """Every call that is lent an image, under every role."""
+    for role in range(3):
+        asked = o._replace(role=role)
+        reads(comparison, bytes(image), asked)
+        state_calls(comparison, image, asked)
+        comparison.same("commit", image, asked, comparison.images.batch(o))
+
+
 def lengths(comparison):
-    """Every call on images with a byte less than the total, with the total, and with a byte, a word, half of another image or all
-    of it behind them; sound and damaged."""
+    """Images with a byte less than the total, with the total, and with a byte, a word, half of another image or all of it
+    behind them; sound and damaged."""
     for _ in range(150):
         o = comparison.images.options()
-        total, another = second.total_size(o), comparison.images.history(o)
-        for image in (comparison.images.history(o), comparison.images.image(o)[:total]):
-            for length in (total - 1, total, total + 1, total + 8, total + total // 2, 2 * total):
-                lent = (image.ljust(total, b"\0") + another)[:length]
-                for role in range(3):
-                    asked = o._replace(role=role)
-                    reads(comparison, bytes(lent), asked)
-                    state_calls(comparison, lent, asked)
-                    comparison.same("commit", lent, asked, comparison.images.batch(o))
+        sound, another = comparison.images.history(o), comparison.images.history(o)
+        total, damaged = len(sound), copy(sound)
+        comparison.images.damage(damaged, o)
+        for image in (sound, damaged[:total].ljust(total, b"\0")):
+            for length in (total - 1, total, total + 1, total + 8, total + len(another) // 2, total + len(another)):
+                capacity = comparison.random.choice((o.slot_capacity, 0))
+                every_call(comparison, (image + another)[:length], o._replace(slot_capacity=capacity))
 
 
 def holding(o, *keys):
     """An image that its writer has begun, with these keys."""
-    image = bytearray(second.total_size(o))
-    second.create(image, o)
+    image = fresh(o)
     second.begin(image, o)
     second.commit(image, o, b"".join(record_of(o, True, key, 0, b"") for key in keys))
     return image
@@ -248,7 +259,8 @@ def keys(comparison):
             first, then = pick.sample([byte for byte in range(256) if byte != stored[at]], 2)
             asked = stored[:at] + bytes([first]) + stored[at + 1:]
             misled, hash64 = bytearray(image), second.fnv1a64(asked)
-            second.Table(misled, o).write_bucket(hash64 % second.bucket_count(o), hash64, 1)
+            table = second.Table(misled, o)
+            table.write_bucket(hash64 % table.bucket_count, hash64, 1)
             comparison.same("lookup", misled, o, asked)
             new = [stored[:at] + bytes([byte]) + pick.randbytes(size - at - 1) for byte in (first, then)]
             comparison.same("commit", image, o, b"".join(record_of(o, True, key, 0, b"") for key in new))

@@ -43,6 +43,11 @@ class Images:
         slot_capacity = pick((1, 2, 3, 3, 4, 5, 5, 9, 17))
         return second.Options(key_size, index_size, slot_capacity, pick((0, 1, 2**64 - 1)), pick((0, 0, 1)), 2)
 
+    def buckets(self, o):
+        """The rule's number of buckets, or another from just above the capacity upwards."""
+        rule, least = second.bucket_count(o), least_buckets(o)
+        return self.random.choice((rule, rule, rule, least, least, 2 * least, 4 * least, 16 * least))
+
     def key(self, o):
         """A key of a small alphabet, or one of a colliding pair."""
         pick = self.random.choice
@@ -67,8 +72,7 @@ class Images:
 
     def history(self, o, commits=6):
         """An image that a writer may have left."""
-        image = bytearray(self.random.randbytes(second.total_size(o)))
-        second.create(image, o)
+        image = fresh(o, self.buckets(o))
         second.begin(image, o)
         for _ in range(self.random.randrange(commits + 1)):
             second.commit(image, o, self.batch(o))
@@ -84,7 +88,7 @@ class Images:
         """One damage of a random kind."""
         self.random.choice((
             self.damage_byte, self.damage_field, self.damage_field, self.damage_field, self.damage_length,
-            self.damage_bucket, self.damage_bucket, self.damage_buckets, self.damage_meta,
+            self.damage_shape, self.damage_bucket, self.damage_bucket, self.damage_buckets, self.damage_meta,
             self.damage_key))(image, o)
 
     def damage_byte(self, image, o):
@@ -105,41 +109,52 @@ class Images:
             second.write_fields(image)
 
     def damage_length(self, image, o):
-        total = second.total_size(o)
-        length = self.random.choice((0, 1, 255, 256, total - 1, total, total + 1, total + 8, 2 * total))
+        length = self.random.choice((0, 1, 255, 256, max(len(image) - 1, 0), len(image) + 1, len(image) + 8, 2 * len(image)))
         image[length:] = b""
         image.extend(self.random.randbytes(max(length - len(image), 0)))
 
-    def within(self, image, o):
-        return len(image) >= second.total_size(o)
+    def has_table(self, image, o):
+        """Whether the header says where slots and buckets are; else no call looks at them."""
+        return second.header_test(image, o) == 0
+
+    def damage_shape(self, image, o):
+        """Another capacity or B, in the header and in the length; slots and buckets stay where they are."""
+        if self.has_table(image, o):
+            capacity = o.slot_capacity + self.random.choice((-1, 0, 0, 1))
+            buckets = second.field(image, "bucket_count") * self.random.choice((1, 2, 4)) // 2
+            second.write_fields(image, slot_capacity=capacity, bucket_count=buckets,
+                                buckets_offset=second.buckets_offset(o, capacity))
+            total = second.total(o, capacity, buckets)
+            image[:] = image[:total].ljust(total, b"\0")
 
     def damage_bucket(self, image, o):
         """A bucket that points elsewhere, or carries another hash."""
-        if self.within(image, o):
+        if self.has_table(image, o):
             table = second.Table(image, o)
             number = self.random.randrange(table.bucket_count)
             bucket, other = table.bucket(number), table.bucket(self.random.randrange(table.bucket_count))
             table.write_bucket(
                 number, self.random.choice((bucket.hash64, other.hash64, bucket.hash64 ^ 1, self.random.getrandbits(64))),
-                self.random.choice((0, 1, 2, o.slot_capacity, o.slot_capacity + 1, bucket.slot_plus1, other.slot_plus1,
+                self.random.choice((0, 1, 2, table.capacity, table.capacity + 1, bucket.slot_plus1, other.slot_plus1,
                                     second.TOMBSTONE, second.TOMBSTONE - 1, self.random.getrandbits(64))))
 
     def damage_buckets(self, image, o):
         """No EMPTY bucket left."""
-        if self.within(image, o):
+        if self.has_table(image, o):
             table = second.Table(image, o)
             for number, bucket in enumerate(table.buckets()):
                 if bucket.slot_plus1 == second.EMPTY:
                     table.write_bucket(number, bucket.hash64, second.TOMBSTONE)
 
     def damage_meta(self, image, o):
-        if self.within(image, o):
-            meta = self.random.choice((0, 1, 2, 3, 256, 2**63))
-            second.Table(image, o).write_slot(self.random.randrange(o.slot_capacity), 0, meta.to_bytes(8, "little"))
+        if self.has_table(image, o):
+            table, meta = second.Table(image, o), self.random.choice((0, 1, 2, 3, 256, 2**63))
+            table.write_slot(self.random.randrange(table.capacity), 0, meta.to_bytes(8, "little"))
 
     def damage_key(self, image, o):
-        if self.within(image, o):
-            second.Table(image, o).write_slot(self.random.randrange(o.slot_capacity), 8, self.key(o))
+        if self.has_table(image, o):
+            table = second.Table(image, o)
+            table.write_slot(self.random.randrange(table.capacity), 8, self.key(o))
 
     def image(self, o):
         """An image as a history left it, or damaged once or twice."""
@@ -149,10 +164,12 @@ class Images:
         return image
 
     def asked(self, o):
-        """Options as a caller may give them: those of the image, another role, something else, or far out of range."""
-        o = o._replace(role=self.random.randrange(3))
+        """Options as a caller may give them: those of the image, the capacity left to its header, another role, something else,
+        or far out of range."""
+        o = o._replace(role=self.random.randrange(3), slot_capacity=self.random.choice((o.slot_capacity, o.slot_capacity, 0)))
         if self.random.random() < 0.15:
             name = self.random.choice(o._fields)
-            value = self.random.choice((0, 1, 2, 3, 64, 65, 256, 257, second.CAPACITY_LIMIT, second.CAPACITY_LIMIT + 1, 2**32, 2**63, 2**64 - 1))
+            value = self.random.choice((0, 1, 2, 3, 64, 65, 256, 257, second.CAPACITY_LIMIT, second.CAPACITY_LIMIT + 1, 2**32,
+                                        2**63, 2**64 - 1))
             o = o._replace(**{name: value})
         return o
