@@ -15,7 +15,7 @@ sys.path.append(sys.path[0] + "/../second")
 
 import native
 import second
-from images import Images, fresh, record_of
+from images import Images, fresh, least_buckets, record_of
 
 CRATES = os.path.abspath(os.path.join(os.path.dirname(__file__), "..", "..", "crates"))
 # the calls, by what demand 1 names them
@@ -238,12 +238,77 @@ def lengths(comparison):
                 every_call(comparison, (image + another)[:length], o._replace(slot_capacity=capacity))
 
 
-def holding(o, *keys):
+def holding(o, *keys, buckets=None):
     """An image that its writer has begun, with these keys."""
-    image = fresh(o)
+    image = fresh(o, buckets)
     second.begin(image, o)
     second.commit(image, o, b"".join(record_of(o, True, key, 0, b"") for key in keys))
     return image
+
+
+def edges(comparison):
+    """Images, each with its options, whose capacity or number of buckets lies round an edge of what is allowed."""
+    near = [(capacity, buckets) for capacity in range(1, 6) for buckets in range(10)]
+    far = [(1, 2**power) for power in range(4, 12)] + [(3, 64), (17, 16), (17, 32), (512, 512), (512, 2048)]
+    for capacity, buckets in near + far:
+        o = comparison.images.options()._replace(slot_capacity=capacity)
+        yield holding(o, comparison.images.key(o), buckets=buckets), o
+    # these the header alone says
+    for capacity in (0, 2, 3, 4, second.CAPACITY_LIMIT + 1, 2**64 - 1):
+        for buckets in (0, 3, 8, second.BUCKET_LIMIT + 1, 2 * second.BUCKET_LIMIT, 2**63, 2**64 - 1):
+            o = comparison.images.options()._replace(slot_capacity=3)
+            image = holding(o, comparison.images.key(o))
+            second.write_fields(image, slot_capacity=capacity, bucket_count=buckets)
+            yield image, o
+
+
+def shapes(comparison):
+    """In every state, with the capacity given and left to the header."""
+    for image, o in edges(comparison):
+        for state in (second.CLEAN, second.INVALIDATED, second.DIRTY):
+            second.write_fields(image, state=state)
+            for asked in (o, o._replace(slot_capacity=0)):
+                every_call(comparison, image, asked)
+
+
+def largest(comparison):
+    """Up to the most buckets, beside one slot and beside the most slots. Such an image has 64 MiB or more: so only calls that do
+    not walk it; large.py makes a commit."""
+    limit = second.BUCKET_LIMIT
+    tried = [(1, 2**power) for power in range(12, limit.bit_length())]
+    tried += [(second.CAPACITY_LIMIT, buckets) for buckets in (limit // 4, limit // 2, limit)]
+    for capacity, buckets in tried:
+        o = second.Options(1, 0, capacity, 0, 0, comparison.random.randrange(3))
+        image = bytes(fresh(o, buckets))
+        for asked in (o, o._replace(slot_capacity=0)):
+            comparison.same("open_check", image, asked)
+            comparison.same("image_shape", image, asked)
+            comparison.same("lookup", image, asked, b"a")
+
+
+def rebuilds(comparison):
+    """Keys deleted one after the other, up to the last tombstone that stays and past it, under several numbers of buckets."""
+    for capacity in (1, 2, 3, 4, 5, 7, 8, 9, 16, 17, 33):
+        o = second.Options(2, 0, capacity, 0, 0, 2)
+        for buckets in (least_buckets(o), 2 * least_buckets(o), 4 * least_buckets(o)):
+            deleted = [number.to_bytes(2, "big") for number in comparison.random.sample(range(2**16), capacity)]
+            image = holding(o, *deleted, buckets=buckets)
+            for key in deleted:
+                committed(comparison, image, o, record_of(o, False, key, 0, b""))
+
+
+def ends(comparison):
+    """Probes that end at every bucket, EMPTY or with the key, where all others are TOMBSTONE; and one without end."""
+    for buckets in (2, 4, 8, 64):
+        o, key = second.Options(8, 0, 1, 0, 0, 2), comparison.random.randbytes(8)
+        image, hash64 = holding(o, key, buckets=buckets), second.fnv1a64(key)
+        table = second.Table(image, o)
+        for number in range(buckets):
+            table.write_bucket(number, hash64, second.TOMBSTONE)
+        for number in range(buckets):
+            for slot_plus1 in (second.EMPTY, 1, second.TOMBSTONE):
+                table.write_bucket(number, hash64, slot_plus1)
+                comparison.same("lookup", image, o, key)
 
 
 def keys(comparison):
@@ -306,8 +371,8 @@ def main():
     seed = int(sys.argv[1]) if len(sys.argv) > 1 else 1
     comparison = Comparison(seed)
     began = time.monotonic()
-    for part in (digests, ages, places, readings, creations, writings, user_data, histories, commits, lengths, keys,
-                 whole_patterns):
+    for part in (digests, ages, places, readings, creations, writings, user_data, histories, commits, lengths, shapes,
+                 largest, rebuilds, ends, keys, whole_patterns):
         part(comparison)
     listed = dict(numbers_listed())
     if listed.keys() != set(JUDGED.values()):
