@@ -11,9 +11,11 @@ from compare import Comparison, listings, reads
 
 import native
 import second
+from images import fresh
 
-# the second program walks all buckets several times in a commit: where there are many, few commits
-CAPACITIES = 600, 1500, 2048, 4097
+# capacities and numbers of buckets: fewer than the rule's, the rule's, more, and fewer. The second program walks all buckets
+# several times in a commit: where there are many, few commits.
+SHAPES = (600, 1024), (1500, 4096), (2048, 8192), (4097, 8192)
 
 
 class History:
@@ -56,10 +58,11 @@ class History:
         return rebuilds
 
 
-def history(comparison, o, commits):
+def history(comparison, o, buckets, commits):
     """A fresh image after a batch that is too long and some that are not; then lookups and listings."""
     tried, limit, pick = History(comparison, o), second.BATCH_LIMIT, comparison.random
     tried.same("create")
+    tried.images = [fresh(o, buckets) for _ in tried.images]
     tried.same("begin")
     # enough keys for a rebuild, and then new ones below them: 6 where the image is ordered and has room
     batches = [(limit + 1, 1500, 0.9, True), (limit, 1500, 0.9, True), (limit - 1, 6000, 0.9, True)][:1 + commits]
@@ -75,8 +78,8 @@ def history(comparison, o, commits):
     return tried
 
 
-def emptied(comparison, o, commits):
-    tried = history(comparison, o, commits)
+def emptied(comparison, o, buckets, commits):
+    tried = history(comparison, o, buckets, commits)
     reads(comparison, bytes(tried.images[0]), o)
     rebuilds = tried.empty()
     reads(comparison, bytes(tried.images[0]), o)
@@ -87,11 +90,12 @@ def main():
     seed = int(sys.argv[1]) if len(sys.argv) > 1 else 1
     comparison, rebuilds, began = Comparison(seed), 0, time.monotonic()
     for ordered in (0, 1):
-        for capacity, commits in ((1024, 1), *((capacity, 8) for capacity in CAPACITIES)):
+        for capacity, buckets, commits in ((1024, 2048, 1), *((*shape, 8) for shape in SHAPES)):
             o = comparison.images.options()._replace(key_size=comparison.random.choice((2, 3, 8, 12)), ordered=ordered)
-            rebuilds += emptied(comparison, o._replace(slot_capacity=capacity), commits)
-        history(comparison, second.Options(12, 20, 20000, 1, ordered, 2), commits=2)
-    history(comparison, second.Options(2, 0, second.CAPACITY_LIMIT, 1, comparison.random.randrange(2), 2), commits=1)
+            rebuilds += emptied(comparison, o._replace(slot_capacity=capacity), buckets, commits)
+        history(comparison, second.Options(12, 20, 20000, 1, ordered, 2), 65536, commits=2)
+    most = second.Options(2, 0, second.CAPACITY_LIMIT, 1, comparison.random.randrange(2), 2)
+    history(comparison, most, second.BUCKET_LIMIT, commits=1)
     answered = comparison.reached["commit"]
     if answered != {0, 5, 6, 7} or rebuilds == 0:
         sys.exit(f"the commits answered {sorted(answered)}, with {rebuilds} rebuilds")
