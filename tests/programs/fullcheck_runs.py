@@ -14,24 +14,18 @@ import sys
 sys.path.append(sys.path[0] + "/../second")
 
 import second
-from images import Images
+from images import Images, fresh
 
 ROOT = os.path.abspath(os.path.join(os.path.dirname(__file__), "..", ".."))
 STORED = os.path.join(ROOT, "crates", "fullcheck")
 BENCH = second.Options(12, 20, 512, 1, 0, 2)
 
 
-def fresh():
-    image = bytearray(second.total_size(BENCH))
-    assert second.create(image, BENCH) == 0
-    return image
-
-
-def used():
+def used(buckets=None):
     """An image with live and deleted slots, and with tombstones that no rebuild has cleared."""
     images = Images(random.Random(1))
     keys = [images.random.randbytes(12) for _ in range(400)]
-    image = fresh()
+    image = fresh(BENCH, buckets)
     assert second.begin(image, BENCH) == 0
     for start in range(0, len(keys), 50):
         puts = b"".join(images.record(BENCH, key, put=True) for key in keys[start:start + 50])
@@ -56,9 +50,12 @@ def damaged(image):
 
 def inputs():
     image = used()
-    yield "a fresh image", fresh()
     yield "a used image", image
     yield "a damaged image", damaged(image)
+    for buckets in (512, 1024, 2048, 4096):
+        yield f"a fresh image of {buckets} buckets", fresh(BENCH, buckets)
+    yield "a used image of 2048 buckets", used(2048)
+    yield "a damaged image of 2048 buckets", damaged(used(2048))
     for length in (0, 100, 45311, 45312, 45313, 65536, 65537):
         yield f"{length} bytes of two images, one behind the other", (image + image)[:length]
 
