@@ -118,16 +118,27 @@ static const char *plural(uint64_t count)
     return count == 1 ? "" : "s";
 }
 
+/* Whether a file is longer or shorter than its slots and buckets ask for, and what these are. */
+static void warn_of_length(const struct store_image *image, const char *path)
+{
+    struct store_shape shape = store_shape_of(image, OPTIONS.slot_capacity);
+    char buckets[40] = "";
+
+    if (image->length == shape.total)
+        return;
+    if (shape.buckets > 0)
+        snprintf(buckets, sizeof buckets, " and %" PRIu64 " buckets", shape.buckets);
+    fprintf(stderr, "bench: %s is %s than a cache of %" PRIu64 " slot%s%s, which has exactly %" PRIu64 " bytes\n", path,
+            image->length > shape.total ? "longer" : "shorter", shape.slots, plural(shape.slots), buckets, shape.total);
+}
+
 /* What is wrong with a file beside what its answer says: its length, where it is to be rebuilt, and its checksum. */
 static void warn_of(const struct store_image *image, const char *path)
 {
     uint32_t answer = slc1_open_check(STORE_LENT(image));
-    int order = answer == SLC1_NEEDS_REBUILD || answer == SLC1_INVALIDATED ? store_length_order(image) : 0;
 
-    if (order != 0)
-        fprintf(stderr, "bench: %s is %s than a cache of %" PRIu64 " slot%s, which has exactly %" PRIu64 " bytes\n", path,
-                order > 0 ? "longer" : "shorter", image->options.slot_capacity, plural(image->options.slot_capacity),
-                slc1_total_size(SLC1_OPTIONS(&image->options)));
+    if (answer == SLC1_NEEDS_REBUILD || answer == SLC1_INVALIDATED)
+        warn_of_length(image, path);
     if (image->checksum == STORE_NO_MARK)
         fprintf(stderr, "bench: %s has no checksum, a changed gain would not be noticed: load or rebuild adds one\n", path);
     if (image->checksum == STORE_WRONG)
@@ -222,7 +233,7 @@ struct slots {
 /* Lists the slots whose serials begin so, and with an empty start all. The caller frees the numbers, whatever the answer is. */
 static uint32_t list_slots(struct slots *slots, const struct store_image *image, const char *start)
 {
-    uint64_t results[SLC1_LISTING_RESULTS], room = image->options.slot_capacity;
+    uint64_t results[SLC1_LISTING_RESULTS], room = slc1_image_capacity(STORE_LENT(image));
     uint32_t answer;
 
     slots->numbers = grown(NULL, (size_t)room * sizeof *slots->numbers);
@@ -488,7 +499,7 @@ static int load(char **words)
     uint32_t answer = store_update(&writer, &all.records);
 
     if (answer == SLC1_FULL)
-        refuse_full(words[0], writer.image.options.slot_capacity,
+        refuse_full(words[0], slc1_image_capacity(STORE_LENT(&writer.image)),
                     live(&writer) + certificates_count(&all, &writer.image), live(&writer));
     if (answer == SLC1_DONE)
         printf("%zu certificate%s loaded, %" PRIu64 " live\n", all.records.count, plural(all.records.count), live(&writer));

@@ -22,8 +22,8 @@
 
 enum { WORD = 8 };
 
-/* Where the header has slot_capacity. */
-enum { CAPACITY_AT = 0x20 };
+/* Where the header has slot_capacity and bucket_count. */
+enum { CAPACITY_AT = 0x20, BUCKETS_AT = 0x48 };
 
 /* A reader waits a quarter of a second for the end of a commit, a writer two seconds for readers and writers. */
 enum { READ_TRIES = 250, LOCK_TRIES = 2000, PAUSE_NANOSECONDS = 1000000 };
@@ -43,46 +43,58 @@ const char *store_text(uint32_t answer)
 
 /* Images. */
 
-static size_t size_of(const struct store_image *image)
+/* Makes room for that many bytes, in place of what there is, which stays where memory is short. */
+static uint32_t make_room(uint8_t **bytes, size_t size)
 {
-    return (size_t)slc1_total_size(SLC1_OPTIONS(&image->options));
+    uint8_t *room = realloc(*bytes, size > 0 ? size : 1);
+
+    if (room == NULL)
+        return STORE_FAILED;
+    *bytes = room;
+    return SLC1_DONE;
 }
 
-/* The room for a copy: a byte more than an image has, so that a longer file is seen to be one. */
-static size_t room_of(const struct store_image *image)
-{
-    return size_of(image) + 1;
-}
-
-/* Room for a copy, of length 0 until it is filled: the pointer that is lent is never NULL. */
+/* An image that nothing has been copied to yet: the pointer that is lent is never NULL. */
 static uint32_t new_image(struct store_image *image, const slc1_options *options)
 {
     *image = (struct store_image){NULL, 0, *options, STORE_UNCHECKED};
     image->options.role = SLC1_NO_WRITER_KNOWN;
-    if (size_of(image) == 0)
+    if (slc1_open_check((const uint8_t *)"", 0, SLC1_OPTIONS(&image->options)) == SLC1_INVALID_INPUT)
         return SLC1_INVALID_INPUT;
-    image->bytes = calloc(1, room_of(image));
-    return image->bytes == NULL ? STORE_FAILED : SLC1_DONE;
+    image->options.slot_capacity = 0; /* as the header says */
+    return make_room(&image->bytes, 0);
 }
 
-/* Room for a copy with another number of slots, in place of the one there is. */
-static uint32_t resize_image(struct store_image *image, uint64_t slot_capacity)
+/* The bytes of an image with so many slots and buckets. */
+static uint64_t total_of(const struct store_image *image, uint64_t slots, uint64_t buckets)
 {
-    struct store_image other = *image;
-    uint32_t answer;
+    enum { BUCKET_SIZE = 2 * WORD };
 
-    other.options.slot_capacity = slot_capacity;
-    answer = new_image(&other, &other.options);
-    if (answer == SLC1_DONE) {
-        free(image->bytes);
-        *image = other;
+    return SLC1_HEADER_SIZE + slots * SLC1_RECORD_SIZE(image->options.key_size, image->options.index_size) +
+           buckets * BUCKET_SIZE;
+}
+
+/* A number of the header; 0 where the file ends before it. */
+static uint64_t number_at(const struct store_image *image, size_t offset)
+{
+    return image->length < offset + WORD ? 0 : slc1_word_at(image->bytes + offset);
+}
+
+struct store_shape store_shape_of(const struct store_image *image, uint64_t otherwise)
+{
+    uint64_t slots = number_at(image, CAPACITY_AT), buckets = number_at(image, BUCKETS_AT), total;
+    slc1_options fresh = image->options;
+
+    if (slots < 1 || slots > SLC1_CAPACITY_LIMIT) {
+        slots = otherwise;
+        buckets = 0;
     }
-    return answer;
-}
-
-int store_length_order(const struct store_image *image)
-{
-    return (image->length > size_of(image)) - (image->length < size_of(image));
+    fresh.slot_capacity = slots;
+    total = slc1_total_size(SLC1_OPTIONS(&fresh));
+    if (buckets <= slots || buckets > SLC1_BUCKET_LIMIT || (buckets & (buckets - 1)) != 0 ||
+        total_of(image, slots, buckets) == total)
+        return (struct store_shape){slots, 0, total};
+    return (struct store_shape){slots, buckets, total_of(image, slots, buckets)};
 }
 
 /* The same bytes under another role. */
@@ -101,7 +113,7 @@ static const uint8_t MARK[WORD] = {'s', 'l', 'o', 't', 's', 'C', 'R', 'C'};
 
 static uint64_t checksum_of(const struct store_image *image)
 {
-    return slc1_crc32c(image->bytes + SLC1_HEADER_SIZE, size_of(image) - SLC1_HEADER_SIZE);
+    return slc1_crc32c(image->bytes + SLC1_HEADER_SIZE, image->length - SLC1_HEADER_SIZE);
 }
 
 /* What is known of the checksum, which holds for CLEAN images: those that pass under role 0. */
@@ -114,7 +126,7 @@ static int judge_checksum(const struct store_image *image, int flags)
         return STORE_UNCHECKED;
     if (memcmp(data, MARK, WORD) != 0)
         return STORE_NO_MARK;
-    if (size_of(image) > STORE_SMALL && !(flags & STORE_VERIFY))
+    if (image->length > STORE_SMALL && !(flags & STORE_VERIFY))
         return STORE_UNCHECKED;
     return slc1_word_at(data + WORD) == checksum_of(image) ? STORE_RIGHT : STORE_WRONG;
 }
@@ -223,41 +235,43 @@ static uint32_t write_at(int file, const uint8_t *bytes, size_t length, size_t o
     return SLC1_DONE;
 }
 
-/* Makes room for a copy of a file, with the slot_capacity of its header where an image may have so many. A file keeps that
- * as long as it is there: a rebuild makes another. */
-static uint32_t fit_image(struct store_image *image, int file)
+/* Copies a file. Of one that is longer than any image a byte more than that is enough: the library refuses it. */
+static uint32_t copy_file(struct store_image *image, int file)
 {
-    struct store_image of_the_file = *image;
-    uint8_t word[WORD];
-    ssize_t length = read_at(file, word, WORD, CAPACITY_AT);
-    uint32_t answer = length < 0 ? STORE_FAILED : SLC1_DONE;
+    const off_t most = (off_t)total_of(image, SLC1_CAPACITY_LIMIT, SLC1_BUCKET_LIMIT) + 1;
+    struct stat status;
+    ssize_t length;
+    size_t size;
 
-    of_the_file.options.slot_capacity = length == WORD ? slc1_word_at(word) : 0;
-    if (size_of(&of_the_file) > 0 && size_of(&of_the_file) != size_of(image))
-        answer = resize_image(image, of_the_file.options.slot_capacity);
-    if (answer != SLC1_DONE)
-        image->length = 0; /* it is not this file's */
-    return answer;
+    if (fstat(file, &status) != 0)
+        return STORE_FAILED;
+    size = (size_t)(status.st_size < most ? status.st_size : most);
+    if (make_room(&image->bytes, size) != SLC1_DONE)
+        return STORE_FAILED;
+    length = read_at(file, image->bytes, size, 0);
+    if (length < 0)
+        return STORE_FAILED;
+    image->length = (size_t)length;
+    return SLC1_DONE;
 }
 
 /* Readers. */
 
-/* Copies the file, as much of it as can be read. Where the generation moves meanwhile, parts of the copy may come from
- * different commits: it gets an odd one, as within a commit, and the library refuses it. */
-static uint32_t copy_file(struct store_image *image, int file)
+/* Copies the file for a reader. Where the generation moves meanwhile, parts of the copy may come from different commits: it
+ * gets an odd one, as within a commit, and the library refuses it. */
+static uint32_t copy_between_commits(struct store_image *image, int file)
 {
     uint8_t before[WORD] = {0}, after[WORD] = {0};
-    ssize_t first, length, last;
 
-    first = read_at(file, before, WORD, SLC1_GENERATION_AT);
-    atomic_thread_fence(memory_order_seq_cst);
-    length = read_at(file, image->bytes, room_of(image), 0);
-    atomic_thread_fence(memory_order_seq_cst);
-    last = read_at(file, after, WORD, SLC1_GENERATION_AT);
-    if (first < 0 || length < 0 || last < 0)
+    if (read_at(file, before, WORD, SLC1_GENERATION_AT) < 0)
         return STORE_FAILED;
-    image->length = (size_t)length;
-    if (memcmp(before, after, WORD) != 0)
+    atomic_thread_fence(memory_order_seq_cst);
+    if (copy_file(image, file) != SLC1_DONE)
+        return STORE_FAILED;
+    atomic_thread_fence(memory_order_seq_cst);
+    if (read_at(file, after, WORD, SLC1_GENERATION_AT) < 0)
+        return STORE_FAILED;
+    if (image->length > SLC1_GENERATION_AT && memcmp(before, after, WORD) != 0)
         image->bytes[SLC1_GENERATION_AT] |= 1;
     return SLC1_DONE;
 }
@@ -287,7 +301,7 @@ static uint32_t read_file(struct store_reader *reader, int file)
     if (locked == STORE_FAILED)
         return STORE_FAILED;
     image->options.role = locked == SLC1_DONE ? SLC1_NO_WRITER_KNOWN : SLC1_ANOTHER_WRITER;
-    answer = copy_file(image, file);
+    answer = copy_between_commits(image, file);
     if (flock(file, LOCK_UN) != 0 || answer != SLC1_DONE) {
         image->length = 0;
         return STORE_FAILED;
@@ -312,8 +326,7 @@ static uint32_t try_read(struct store_reader *reader)
     }
     close_file(reader->file);
     reader->file = file;
-    answer = fit_image(&reader->image, file);
-    return answer == SLC1_DONE ? read_file(reader, file) : answer;
+    return read_file(reader, file);
 }
 
 /* Whether a writer may soon make an image usable. Beside one, 4 is a commit under way, and 1 may be the CRC of a begin
@@ -380,7 +393,7 @@ static uint32_t publish_words(const struct store_writer *writer, size_t from, si
 static uint32_t publish(struct store_writer *writer)
 {
     const uint8_t *bytes = writer->image.bytes;
-    size_t size = size_of(&writer->image);
+    size_t size = writer->image.length;
     bool moves = memcmp(bytes + SLC1_GENERATION_AT, writer->published + SLC1_GENERATION_AT, WORD) != 0;
     uint32_t answer = moves ? write_odd(writer) : (uint32_t)SLC1_DONE;
 
@@ -401,13 +414,13 @@ static uint32_t publish(struct store_writer *writer)
 static uint32_t read_whole(struct store_writer *writer)
 {
     struct store_image *image = &writer->image;
-    ssize_t length = read_at(writer->file, image->bytes, room_of(image), 0);
+    uint32_t answer = copy_file(image, writer->file);
 
-    if (length < 0)
-        return STORE_FAILED;
-    image->length = (size_t)length;
-    memcpy(writer->published, image->bytes, size_of(image));
-    return SLC1_DONE;
+    if (answer == SLC1_DONE)
+        answer = make_room(&writer->published, image->length);
+    if (answer == SLC1_DONE)
+        memcpy(writer->published, image->bytes, image->length);
+    return answer;
 }
 
 /* One that a dead writer or a power cut left: only its role, 0, tells it from one that a writer is at work on. */
@@ -461,25 +474,13 @@ static uint32_t lock_for_writing(struct store_writer *writer)
     return answer;
 }
 
-/* Room for what stands in the file, as large as the private copy. */
-static uint32_t fit_published(struct store_writer *writer)
-{
-    free(writer->published);
-    writer->published = calloc(1, size_of(&writer->image));
-    return writer->published == NULL ? STORE_FAILED : SLC1_DONE;
-}
-
 static uint32_t try_lock(struct store_writer *writer)
 {
     uint32_t answer = open_file(&writer->file, writer->path, O_RDWR, 0);
 
     if (answer != SLC1_DONE)
         return answer;
-    answer = fit_image(&writer->image, writer->file);
-    if (answer == SLC1_DONE)
-        answer = fit_published(writer);
-    if (answer == SLC1_DONE)
-        answer = lock_for_writing(writer);
+    answer = lock_for_writing(writer);
     if (answer != SLC1_DONE)
         close_file(writer->file);
     return answer;
@@ -510,7 +511,7 @@ uint32_t store_open_writer(struct store_writer *writer, const char *path, const 
         free_writer(writer);
         return answer;
     }
-    writer->slot_capacity = writer->image.options.slot_capacity;
+    writer->slot_capacity = store_shape_of(&writer->image, options->slot_capacity).slots;
     writer->image.checksum = judge_checksum(&writer->image, STORE_VERIFY);
     return SLC1_DONE;
 }
@@ -775,21 +776,23 @@ static uint32_t replace_file(struct store_writer *writer)
     return answer;
 }
 
-static uint32_t resize_writer(struct store_writer *writer)
+/* Makes the private copy anew, of the records alone, and room for what stands in the file then. */
+static uint32_t make_anew(struct store_writer *writer, const struct store_records *records)
 {
-    uint32_t answer = resize_image(&writer->image, writer->slot_capacity);
-
-    return answer == SLC1_DONE ? fit_published(writer) : answer;
-}
-
-/* Makes the private copy anew, of the records alone. */
-static uint32_t make_anew(struct store_image *image, const struct store_records *records, struct told told)
-{
+    struct store_image *image = &writer->image;
+    slc1_options fresh = image->options;
     uint32_t answer;
 
-    image->length = size_of(image);
-    answer = slc1_create(STORE_LENT(image));
-    return answer == SLC1_DONE ? change(image, records, NULL, told) : answer;
+    fresh.slot_capacity = writer->slot_capacity;
+    image->length = (size_t)slc1_total_size(SLC1_OPTIONS(&fresh));
+    answer = make_room(&image->bytes, image->length);
+    if (answer == SLC1_DONE)
+        answer = make_room(&writer->published, image->length);
+    if (answer == SLC1_DONE)
+        answer = slc1_create(image->bytes, image->length, SLC1_OPTIONS(&fresh));
+    if (answer == SLC1_DONE)
+        answer = change(image, records, NULL, (struct told){writer->progress, 0, records->count});
+    return answer;
 }
 
 uint32_t store_rebuild(struct store_writer *writer, const struct store_records *records)
@@ -798,11 +801,9 @@ uint32_t store_rebuild(struct store_writer *writer, const struct store_records *
     uint32_t answer = judge_replacement(writer);
     sigset_t before;
 
-    if (answer == SLC1_DONE && writer->slot_capacity != image->options.slot_capacity)
-        answer = resize_writer(writer);
     if (answer != SLC1_DONE)
         return answer;
-    answer = make_anew(image, records, (struct told){writer->progress, 0, records->count});
+    answer = make_anew(writer, records);
     hold_signals(&before);
     if (answer == SLC1_DONE)
         answer = replace_file(writer);
@@ -811,7 +812,7 @@ uint32_t store_rebuild(struct store_writer *writer, const struct store_records *
         image->length = 0; /* it is not the file's: an update is refused */
         return answer;
     }
-    memcpy(writer->published, image->bytes, size_of(image));
+    memcpy(writer->published, image->bytes, image->length);
     image->checksum = STORE_RIGHT;
     return SLC1_DONE;
 }

@@ -21,8 +21,9 @@
  * mark "slotsCRC", the CRC32-C of all bytes behind the header as a u64. It is renewed before each checkpoint, and holds
  * for CLEAN images. The other 48 bytes and the user flags are the host's own, and stay; after a rebuild they are 0.
  *
- * The role of the options is not looked at: the store finds it out. Their slot_capacity is for a file that the store makes, or
- * whose own can't be known; of any other file the header's is taken, and is then in the options of the image.
+ * Options. Their role is not looked at: the store finds it out. Their slot_capacity is for a file that the store makes, and may
+ * be 0 where it makes none. A file that is there has the slots and buckets that its header says, whoever made it: the options
+ * of its image have slot_capacity 0, and slc1_image_capacity(STORE_LENT(&image)) tells how many slots there are.
  */
 #ifndef STORE_H
 #define STORE_H
@@ -59,19 +60,27 @@ enum {
 };
 
 /* A private copy of what a file holds, for any call that reads: slc1_full_check(STORE_LENT(&image)). A file that is longer than
- * an image is copied with one byte more than that has, and so refused by the library as a shorter one is. */
+ * any image is copied with one byte more than the longest has, and so refused by the library as a shorter one is. */
 struct store_image {
     uint8_t *bytes;
     size_t length;
-    slc1_options options; /* with the slot_capacity of the file, and the role that is true of these bytes */
+    slc1_options options; /* with slot_capacity 0, and the role that is true of these bytes */
     int checksum;
 };
 
 #define STORE_LENT(image) (image)->bytes, (image)->length, SLC1_OPTIONS(&(image)->options)
 
-/* How the file that was copied stands against an image of its options: -1 shorter, 0 exactly as long, 1 longer. -1 where
- * nothing was copied. */
-int store_length_order(const struct store_image *image);
+/* How many slots and buckets an image has. */
+struct store_shape {
+    uint64_t slots;
+    uint64_t buckets; /* 0 where they are those of a fresh image with these slots */
+    uint64_t total;   /* its bytes */
+};
+
+/* The shape that the header speaks of, also where the image does not pass: for a person who is told of it, and for a rebuild.
+ * Where the file ends before the slots, or no image has so many, that of a fresh image with `otherwise` slots; where this goes
+ * for the buckets alone, that of a fresh image with the header's slots. */
+struct store_shape store_shape_of(const struct store_image *image, uint64_t otherwise);
 
 /* A reader of a file. The host may read the image; the rest is the store's. */
 struct store_reader {
@@ -109,7 +118,7 @@ struct store_records {
 struct store_writer {
     struct store_image image;
     void (*progress)(size_t done, size_t all); /* told of each commit how far the work is, unless it is NULL */
-    uint64_t slot_capacity; /* of the file that a rebuild makes; the image's, unless another is set */
+    uint64_t slot_capacity; /* of the file that a rebuild makes; as the header says, else the options, unless another is set */
     const char *path;
     int file;           /* the file that `path` names, with its exclusive lock */
     uint8_t *published; /* what stands there */

@@ -9,17 +9,13 @@ import second
 from bench_damage import refused_by_checksum
 from bench_shim import calls_of, held, stopped
 from bench_tools import (
-    MANY_NEW, MANY_OLD, NEW, OPTIONS, REBUILT, ROOT, SENTENCES, Certificate, holds, path_of, read, row, rows,
+    MANY_NEW, MANY_OLD, NEW, REBUILT, ROOT, SENTENCES, Certificate, holds, of, path_of, read, row, rows,
     same, says, there, write, write_certificates)
 from bench_wanted import MANY_IMAGE, OLD_IMAGE, changed, flipped, fresh, pairs, reads, rebuilt, stored, without_generation
 
 LIMIT = second.CAPACITY_LIMIT
 USAGE = "usage: bench create FILE"
 ONE_MORE = Certificate("CM9-2501-000", 1, "+1.5")
-
-
-def of(slots):
-    return OPTIONS._replace(slot_capacity=slots)
 
 
 def counted(number, what):

@@ -10,7 +10,7 @@ from functools import partial
 import second
 from bench_tools import (
     HEADING, LOADED, MANY, MANY_LOADED, NEW, OPTIONS, REBUILT, ROOT, SENTENCES, WORK, Certificate, certificates_in, holds,
-    path_of, read, row, rows, same, says, there, write, write_certificates)
+    of, path_of, read, row, rows, same, says, there, write, write_certificates)
 from bench_wanted import NEW_IMAGE, fresh, loaded, pairs, reads, stored, wanted, without_generation
 
 COMMANDS = ("create", "load", "rebuild", "compare", "get", "find", "list", "export", "check", "drop")
@@ -255,7 +255,7 @@ def progress(bench):
     shown = on_a_terminal(bench, "load", "cache", "many_new.csv")
     same("on a terminal", (shown.status, shown.out), (0, MANY_LOADED))
     says(shown, *PROGRESS)
-    write("cache", fresh(OPTIONS._replace(slot_capacity=2050)))
+    write("cache", fresh(of(2050)))
     shown = on_a_terminal(bench, "load", "cache", "many_new.csv")
     same("refused on a terminal", (shown.status, shown.err.split("\r")[:2]), (5, PROGRESS[:2]))
     says(shown, "\rbench: cache is full")

@@ -5,8 +5,8 @@ from bench_tools import (
     COUNTS, GENERATION, NEW, OPTIONS, RANDOM, REBUILT, SENTENCES, TOTAL, holds, read, rows, same, says, there, write,
     write_certificates)
 from bench_wanted import (
-    MARK, NEW_IMAGE, NONE, OLD_IMAGE, RIGHT, WRONG, changed, checksum, flipped, length_said, loaded, mark_of, marked,
-    options_of, reads, rebuilt, stored, struck_out)
+    MARK, NEW_IMAGE, NONE, OLD_IMAGE, RIGHT, WRONG, changed, checksum, flipped, judging, length_said, loaded, mark_of, marked,
+    reads, rebuilt, stored, struck_out)
 from images import Images
 
 WRITES = (("load", "cache", "new.csv"), ("drop", "cache", NEW[0].serial))
@@ -69,7 +69,7 @@ def used_up(bench):
 
 def may_be_rebuilt(data):
     """Empty, or an image of certificates, whatever its damage: nothing else is written over."""
-    return data == b"" or data[:4] == b"SLC1" and second.header_test(data, options_of(data)) in (0, 1, 3)
+    return data == b"" or data[:4] == b"SLC1" and second.header_test(data, judging()) in (0, 1, 3)
 
 
 def other_kinds(bench):
@@ -78,7 +78,7 @@ def other_kinds(bench):
     return [*(text[:length] for length in bench.some(range(1, 256))), *begun, text, b"text" * 11328, b"\0", b"SLC", b"SLC2",
             b"slc1", b"SLC2" + image[4:], changed(image, user_version=2), changed(image, flags=1),
             changed(image, key_size=11), changed(image, bucket_count=2048), image[:200], bytes(TOTAL),
-            *(changed(image, slot_capacity=slots) for slots in (0, 1, 511, 513, 2**20, 2**20 + 1, 2**64 - 1)),
+            *(changed(image, slot_capacity=slots) for slots in (0, 300, 511, 513, 2**20 + 1, 2**64 - 1)),
             b"\xef\xbb\xbf" + text]
 
 
@@ -86,7 +86,7 @@ def no_cache(bench):
     """A load or a rebuild that is given the wrong file does not touch it."""
     for data in other_kinds(bench):
         write("cache", data)
-        answer = second.header_test(data, options_of(data))
+        answer = second.header_test(data, judging())
         for words in (*WRITES, *SHOWS, ("compare", "cache", "new.csv"))[::1 if len(data) % 16 == 1 else 4]:
             bench.leaves_alone("cache", bench.answers, answer, *words)
         if may_be_rebuilt(data):

@@ -21,6 +21,12 @@ TOTAL = second.total_size(OPTIONS)
 BATCH = second.BATCH_LIMIT
 GENERATION = second.FIELDS["generation"][0]
 
+
+def of(slots):
+    """The options of a cache that bench makes."""
+    return OPTIONS._replace(slot_capacity=slots)
+
+
 Certificate = namedtuple("Certificate", "serial revision gain")
 Ran = namedtuple("Ran", "status out err")
 
@@ -111,7 +117,7 @@ def older(certificates):
 
 OLD = older(NEW)
 # More than two batches, for caches of more than 256 KiB. MANY_NEW is loaded by several commits.
-MANY = OPTIONS._replace(slot_capacity=2400)
+MANY = of(2400)
 MANY_NEW = [Certificate(f"CM5-{2000 + number // 100}-{number % 100:03}", number % 5, f"+{number % 40}.{number:04}")
             for number in range(2 * BATCH + 50)]
 MANY_OLD = older(MANY_NEW)

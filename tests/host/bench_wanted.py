@@ -3,18 +3,17 @@
 import re
 from functools import lru_cache
 
+import images
 import second
 from bench_tools import (
-    ADVICE, BATCH, GENERATION, HEADING, MANY, MANY_OLD, NEW, OLD, OPTIONS, SENTENCES, Certificate, holds, read, same, says,
+    ADVICE, BATCH, GENERATION, HEADING, MANY, MANY_OLD, NEW, OLD, OPTIONS, SENTENCES, Certificate, holds, of, read, same, says,
     write, write_certificates)
-from images import record_of
 
 # Images.
 
-def options_of(image, role=0):
-    """The options under which bench judges a file: the slots are the header's, where a cache may have so many."""
-    slots = second.field(image, "slot_capacity") if len(image) >= 40 else 0
-    return OPTIONS._replace(role=role, **({"slot_capacity": slots} if 1 <= slots <= second.CAPACITY_LIMIT else {}))
+def judging(role=0):
+    """The options under which bench judges a file: its slots and buckets are as its header says."""
+    return OPTIONS._replace(slot_capacity=0, role=role)
 
 
 def changed(image, **fields):
@@ -31,7 +30,7 @@ def flipped(image, place, bit):
 
 def struck_out(image):
     """What a dead writer left, and readers beside the next writer must not believe, may be made odd."""
-    left = len(image) == second.total_size(options_of(image)) and second.field(image, "state") == second.DIRTY
+    left = second.header_test(image, judging(role=1)) == 0 and second.field(image, "state") == second.DIRTY
     return changed(image, generation=second.field(image, "generation") | 1) if left else image
 
 
@@ -52,7 +51,7 @@ def mark_of(image):
 
 def checksum(image, role):
     """What is known of an image's checksum. It holds for CLEAN images that pass the header test."""
-    if second.header_test(image, options_of(image, role)) or second.field(image, "state") != second.CLEAN:
+    if second.header_test(image, judging(role)) or second.field(image, "state") != second.CLEAN:
         return UNKNOWN
     kept = second.field(image, "user_data").to_bytes(64, "little")[:16]
     if not kept.startswith(MARK):
@@ -69,12 +68,12 @@ def marked(image):
 # What the second program makes of an image.
 
 def record(c, put):
-    return record_of(OPTIONS, put, c.serial.encode(), c.revision if put else 0, c.gain.encode() if put else b"")
+    return images.record_of(OPTIONS, put, c.serial.encode(), c.revision if put else 0, c.gain.encode() if put else b"")
 
 
 def stored(image, certificates, put=True):
     """The image after a load, or a drop, of certificates: a begin, commits, the mark in the user data, and a checkpoint."""
-    image, held = bytearray(image), options_of(image, role=2)
+    image, held = bytearray(image), judging(role=2)
     answers = [second.begin(image, held)]
     for at in range(0, len(certificates), BATCH):
         answers.append(second.commit(image, held, b"".join(record(c, put) for c in certificates[at:at + BATCH])))
@@ -87,9 +86,7 @@ def stored(image, certificates, put=True):
 @lru_cache
 def fresh(options=OPTIONS):
     """What create makes."""
-    image = bytearray(second.total_size(options))
-    second.create(image, options)
-    return stored(image, [])
+    return stored(images.fresh(options), [])
 
 
 def without_generation(image):
@@ -106,12 +103,12 @@ def gain_of(slot):
 
 
 def shown(image, number):
-    slot = second.Table(image, options_of(image)).slot(number)
+    slot = second.Table(image, judging()).slot(number)
     return f"{spelled(slot.key)} slot {number} revision {slot.revision} gain {gain_of(slot)}"
 
 
 def listed(image):
-    live = [slot for slot in second.Table(image, options_of(image)).slots() if slot.meta == 1]
+    live = [slot for slot in second.Table(image, judging()).slots() if slot.meta == 1]
     return HEADING + "".join(f"{spelled(slot.key)},{slot.revision},{gain_of(slot)}\n" for slot in live)
 
 
@@ -126,7 +123,7 @@ def wanted_list(image, options):
 
 
 def wanted_find(image, options, half):
-    numbers, pattern = [0] * options.slot_capacity, half.encode()
+    numbers, pattern = [0] * (len(image) // second.slot_size(options)), half.encode()
     found = second.match(image, options, 0, 8 * len(pattern), pattern, 0, len(numbers), numbers)
     out = "".join(shown(image, number) + "\n" for number in numbers[:found.written])
     return found.answer or 9 * (out == ""), out
@@ -146,17 +143,26 @@ def wanted(image, role, command, *words):
     """The answer and the output for an image. One with a wrong checksum needs a rebuild, and nothing of it is shown."""
     if command != "check" and checksum(image, role) == WRONG:
         return 1, ""
-    return WANTED[command](image, options_of(image, role), *words)
+    return WANTED[command](image, judging(role), *words)
+
+
+def spoken_of(image, name, possible):
+    """A number of the header, or 0 where it is not there or not possible."""
+    return second.field(image, name) if len(image) >= sum(second.FIELDS[name]) and second.field(image, name) in possible else 0
 
 
 def length_said(image, role=0):
-    """What is said of the length of an image, where it is to be rebuilt: nothing, or a line."""
-    options = options_of(image, role)
-    slots, total = options.slot_capacity, second.total_size(options)
-    if second.header_test(image, options) not in (1, 3) or len(image) == total:
+    """What is said of the length of an image, where it is to be rebuilt: nothing, or a line. It names the buckets where bench
+    would make another number."""
+    said = spoken_of(image, "slot_capacity", range(1, second.CAPACITY_LIMIT + 1))
+    slots = said or 512
+    usual = second.bucket_count(of(slots))
+    buckets = said and spoken_of(image, "bucket_count", [2**n for n in range(1, 23) if 2**n > slots]) or usual
+    total = second.total(OPTIONS, slots, buckets)
+    if second.header_test(image, judging(role)) not in (1, 3) or len(image) == total:
         return []
-    than = f"{'longer' if len(image) > total else 'shorter'} than a cache of {slots} slot{'s' * (slots > 1)}"
-    return [f"is {than}, which has exactly {total} bytes\n"]
+    cache = f"a cache of {slots} slot{'s' * (slots > 1)}" + (buckets != usual) * f" and {buckets} buckets"
+    return [f"is {'longer' if len(image) > total else 'shorter'} than {cache}, which has exactly {total} bytes\n"]
 
 
 def agrees(ran, image, role, command, *words):

@@ -136,12 +136,11 @@ static bool is_untouched(const struct work *work)
     return work->before == NULL ? access("cache", F_OK) != 0 : is_contents("cache", work->before);
 }
 
-static bool needs_rebuild(const struct work *work)
+static bool needs_rebuild(void)
 {
     slc1_options options = OPTIONS;
 
-    if (work->before->length > slc1_total_size(SLC1_OPTIONS(&OPTIONS)))
-        options.slot_capacity += MORE;
+    options.slot_capacity = 0; /* as the header says */
     return contents_answer("cache", &options) == SLC1_NEEDS_REBUILD;
 }
 
@@ -155,7 +154,7 @@ static bool is_struck_out(const struct work *work)
     flip("cache", SLC1_GENERATION_AT);
     is = is_untouched(work);
     flip("cache", SLC1_GENERATION_AT);
-    return is && needs_rebuild(work);
+    return is && needs_rebuild();
 }
 
 static size_t owners; /* that a new file could not be given to */
@@ -171,7 +170,7 @@ static void ends_well(const struct work *work, uint32_t answer)
         holds(is_untouched(work));
     else
         holds(is_untouched(work) || is_done(work) || is_struck_out(work) ||
-              (work->run == update && needs_rebuild(work)));
+              (work->run == update && needs_rebuild()));
 }
 
 static size_t failures;
@@ -211,9 +210,8 @@ static struct bytes updated(const struct bytes *before)
 }
 
 /* A reader that stays open, whose copy fails or breaks off when the file has changed: the next one is whole. */
-static void broken_copies(const struct bytes *before, enum how how)
+static void broken_copies(const struct bytes *before, const struct bytes *after, enum how how)
 {
-    struct bytes after = updated(before);
     struct store_reader reader;
     uint32_t answer;
     long chosen = 0;
@@ -222,18 +220,34 @@ static void broken_copies(const struct bytes *before, enum how how)
         write_file("cache", before->bytes, before->length);
         same(SLC1_DONE, store_open_reader(&reader, "cache", &OPTIONS, 0));
         same(SLC1_DONE, store_read(&reader));
-        write_file("cache", after.bytes, after.length);
+        write_file("cache", after->bytes, after->length);
         arm(how, ++chosen);
         answer = store_read(&reader);
         plan.armed = false;
         holds(answer == SLC1_DONE || (answer == STORE_FAILED && plan.error != 0));
-        if (answer == STORE_FAILED)
+        if (answer == STORE_FAILED) {
+            holds(reader.image.length == 0 || reader.image.length == before->length);
+            holds(reader.image.bytes != NULL && memcmp(reader.image.bytes, before->bytes, reader.image.length) == 0);
             same(SLC1_DONE, store_read(&reader));
-        holds(reader.image.length == after.length && memcmp(reader.image.bytes, after.bytes, after.length) == 0);
+        }
+        holds(reader.image.length == after->length && memcmp(reader.image.bytes, after->bytes, after->length) == 0);
         store_close_reader(&reader);
         failures += plan.error != 0;
     } while (plan.calls >= chosen);
-    free(after.bytes);
+}
+
+/* A file that a partner made, with other slots and buckets, and that was updated since. */
+static struct bytes partners(void)
+{
+    slc1_options options = OPTIONS;
+    struct bytes image;
+
+    options.slot_capacity += MORE;
+    image = partners_image(&options, 4096);
+    write_file("cache", image.bytes, image.length);
+    same(SLC1_DONE, update(&some));
+    free(image.bytes);
+    return contents("cache");
 }
 
 /* Where others hold the lock, a writer gives up, and a reader goes by what it sees. */
@@ -250,15 +264,15 @@ static void locked(const struct bytes *good)
 
 int main(int count, char **words)
 {
-    struct bytes empty = {(uint8_t *)"", 0}, good, dirty, other;
+    struct bytes empty = {(uint8_t *)"", 0}, good, later, dirty, other;
 
     if (count != 2 || chdir(words[1]) != 0)
         return 64;
     some = puts_of(&OPTIONS, 100, 1);
     holds(store_create("cache", &OPTIONS) == SLC1_DONE && update(&some) == SLC1_DONE);
     good = contents("cache");
-    same(SLC1_DONE, rebuild_larger(&some));
-    other = contents("cache");
+    later = updated(&good);
+    other = partners();
     dirty = (struct bytes){malloc(good.length), good.length};
     holds(dirty.bytes != NULL);
     memcpy(dirty.bytes, good.bytes, good.length);
@@ -270,17 +284,21 @@ int main(int count, char **words)
                            {"rebuild", rebuild, &good, {NULL, 0}},  {"rebuild", rebuild, &empty, {NULL, 0}},
                            {"rebuild", rebuild, &dirty, {NULL, 0}},
                            {"rebuild with more slots", rebuild_larger, &good, {NULL, 0}},
-                           {"read one of other slots", read_twice, &other, {NULL, 0}},
-                           {"update one of other slots", update, &other, {NULL, 0}}};
+                           {"read a partner's", read_twice, &other, {NULL, 0}},
+                           {"update a partner's", update, &other, {NULL, 0}},
+                           {"rebuild a partner's", rebuild, &other, {NULL, 0}}};
 
     for (size_t i = 0; i < COUNT(works); i++)
         fail_each(&works[i]);
-    broken_copies(&good, ONCE);
-    broken_copies(&good, BROKEN_OFF);
+    broken_copies(&good, &later, ONCE);
+    broken_copies(&good, &later, BROKEN_OFF);
+    broken_copies(&good, &other, ONCE);
+    broken_copies(&other, &good, ONCE);
     locked(&good);
     holds(geteuid() != 0 || owners > 0);
     free(some.bytes);
     free(good.bytes);
+    free(later.bytes);
     free(dirty.bytes);
     free(other.bytes);
     printf("the store survives: %zu failures, %zu comparisons\n", failures, comparisons);

@@ -97,6 +97,22 @@ static inline size_t record_size(const slc1_options *options)
     return SLC1_RECORD_SIZE(options->key_size, options->index_size);
 }
 
+/* A fresh image as a partner makes it: with so many buckets, and without the store's mark. */
+static inline struct bytes partners_image(const slc1_options *options, uint64_t buckets)
+{
+    const size_t bucket_count_at = 0x48, crc_at = 0x70; /* the state, 0, is in the word of the CRC */
+    size_t fresh = (size_t)slc1_total_size(SLC1_OPTIONS(options));
+    struct bytes image = {NULL, SLC1_HEADER_SIZE + options->slot_capacity * record_size(options) + buckets * 16};
+
+    image.bytes = (uint8_t *)calloc(1, image.length > fresh ? image.length : fresh);
+    holds(image.bytes != NULL);
+    same(SLC1_DONE, slc1_create(image.bytes, fresh, SLC1_OPTIONS(options)));
+    slc1_put_word(image.bytes + bucket_count_at, buckets);
+    slc1_put_word(image.bytes + crc_at, 0);
+    slc1_put_word(image.bytes + crc_at, slc1_crc32c(image.bytes, SLC1_HEADER_SIZE));
+    return image;
+}
+
 /* Puts with keys in order, one revision, and an index of one letter. */
 static inline struct store_records puts_of(const slc1_options *options, size_t count, int64_t revision)
 {

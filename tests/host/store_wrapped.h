@@ -150,11 +150,19 @@ static size_t count_held(void)
     return count;
 }
 
+static void release(const void *room)
+{
+    for (size_t i = 0; i < COUNT(held); i++) {
+        if (room != NULL && held[i] == room)
+            held[i] = NULL;
+    }
+}
+
 void *__real_malloc(size_t size);
-void *__real_calloc(size_t count, size_t size);
+void *__real_realloc(void *room, size_t size);
 void __real_free(void *room);
 void *__wrap_malloc(size_t size);
-void *__wrap_calloc(size_t count, size_t size);
+void *__wrap_realloc(void *room, size_t size);
 void __wrap_free(void *room);
 
 void *__wrap_malloc(size_t size)
@@ -162,17 +170,17 @@ void *__wrap_malloc(size_t size)
     return fails(MEMORY) ? NULL : hold(__real_malloc(size));
 }
 
-void *__wrap_calloc(size_t count, size_t size)
+void *__wrap_realloc(void *room, size_t size)
 {
-    return fails(MEMORY) ? NULL : hold(__real_calloc(count, size));
+    if (fails(MEMORY))
+        return NULL;
+    release(room);
+    return hold(__real_realloc(room, size));
 }
 
 void __wrap_free(void *room)
 {
-    for (size_t i = 0; i < COUNT(held); i++) {
-        if (room != NULL && held[i] == room)
-            held[i] = NULL;
-    }
+    release(room);
     __real_free(room);
 }
 
