@@ -372,8 +372,9 @@ static int check(char **words)
     uint32_t answer = read_cache(&reader, words[0]);
 
     slc1_full_check_results(STORE_LENT(&reader.image), results, SLC1_FULL_CHECK_RESULTS);
-    printf("answer %" PRIu64 " live %" PRIu64 " tombstones %" PRIu64 " probes %" PRIu64 " checksum %s\n", results[0],
-           results[1], results[2], results[3], CHECKSUMS[reader.image.checksum]);
+    printf("answer %" PRIu64 " live %" PRIu64 " tombstones %" PRIu64 " probes %" PRIu64 " checksum %s slots %" PRIu64
+           " buckets %" PRIu64 "\n", results[0], results[1], results[2], results[3], CHECKSUMS[reader.image.checksum],
+           slc1_image_capacity(STORE_LENT(&reader.image)), slc1_image_buckets(STORE_LENT(&reader.image)));
     if (results[0] != SLC1_DONE)
         answer = (uint32_t)results[0];
     store_close_reader(&reader);

@@ -132,7 +132,8 @@ def wanted_find(image, options, half):
 def wanted_check(image, options):
     checked = second.full_check(image, options)
     word = checksum(image, options.role)
-    out = "answer %d live %d tombstones %d probes %d checksum %s\n" % (*checked, word)
+    slots, buckets, _ = second.image_shape(image, options)
+    out = "answer %d live %d tombstones %d probes %d checksum %s slots %d buckets %d\n" % (*checked, word, slots, buckets)
     return checked.answer or int(word == WRONG), out
 
 
