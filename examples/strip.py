@@ -2,7 +2,7 @@
 """Draws the buckets of an SLC1 image as a strip, by how far each key stands from its home bucket.
 
 usage: examples/strip.py FILE > strip.svg
-  FILE has at most 8,192 buckets, those of 4,096 slots: more would be too many to look at.
+  FILE has at most 8,192 buckets, as bench makes for 4,096 slots: more would be too many to look at.
 """
 
 import sys
@@ -36,15 +36,16 @@ def buckets_in(image):
         return f"is no SLC1 image: it has {len(image)} bytes, and a header has {HEADER_SIZE}"
     if image[:4] != b"SLC1" or unpack_from("<II", image, 4) != (1, HEADER_SIZE):
         return "is no SLC1 image: magic, version or header_size is wrong"
-    (count,), (offset,) = unpack_from("<Q", image, 0x48), unpack_from("<Q", image, 0x68)
-    if count < 2 or count & (count - 1):
-        return f"is no sound SLC1 image: its bucket_count is {count}, and that is no power of two from 2 on"
+    slots, count, offset = (unpack_from("<Q", image, at)[0] for at in (0x20, 0x48, 0x68))
+    if count <= max(slots, 1) or count & (count - 1):
+        wanted = f"a power of two above its slot_capacity, {slots}"
+        return f"is no sound SLC1 image: its bucket_count is {count}, and not {wanted}"
     end = offset + 16 * count
     if len(image) != end:
         length = "short" if len(image) < end else "long"
         return f"is too {length}: its {count:,} buckets end at {end:,}, and it has {len(image):,} bytes"
     if count > MOST_BUCKETS:
-        return f"has {count:,} buckets, and more than {MOST_BUCKETS:,} are not drawn: take a cache of fewer slots"
+        return f"has {count:,} buckets, and more than {MOST_BUCKETS:,} are not drawn: take a smaller cache"
     return list(iter_unpack("<QQ", image[offset:end]))
 
 
