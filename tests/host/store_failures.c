@@ -236,6 +236,40 @@ static void broken_copies(const struct bytes *before, const struct bytes *after,
     } while (plan.calls >= chosen);
 }
 
+/* What another program makes of the file. */
+static struct bytes grown;
+
+static void grow(void)
+{
+    write_file("cache", grown.bytes, grown.length);
+}
+
+/* A file that has the first bytes of a good one, and grows before any call of a reader or writer, to the good one or to a byte
+ * more: it is taken only where it is whole. */
+static void growing(const struct bytes *good)
+{
+    const size_t lengths[] = {0, 40, 72, 255, 256, 4096, good->length - 1};
+    uint32_t answer;
+    long chosen;
+
+    grown = (struct bytes){calloc(1, good->length + 1), 0};
+    holds(grown.bytes != NULL);
+    memcpy(grown.bytes, good->bytes, good->length);
+    for (size_t i = 0; i < 4 * COUNT(lengths); i++) {
+        grown.length = good->length + i % 2;
+        chosen = 0;
+        do {
+            write_file("cache", good->bytes, lengths[i / 4]);
+            arm(UNHARMED, ++chosen);
+            plan.before = grow;
+            answer = i / 2 % 2 == 0 ? read_twice(&some) : update(&some);
+            plan.armed = false;
+            holds(answer == SLC1_NEEDS_REBUILD || answer == SLC1_CREATE_IT || (answer == SLC1_DONE && i % 2 == 0));
+        } while (plan.calls >= chosen);
+    }
+    free(grown.bytes);
+}
+
 /* A file that a partner made, with other slots and buckets, and that was updated since. */
 static struct bytes partners(void)
 {
@@ -294,6 +328,7 @@ int main(int count, char **words)
     broken_copies(&good, &later, BROKEN_OFF);
     broken_copies(&good, &other, ONCE);
     broken_copies(&other, &good, ONCE);
+    growing(&good);
     locked(&good);
     holds(geteuid() != 0 || owners > 0);
     free(some.bytes);

@@ -1,5 +1,6 @@
-/* The calls of the system that store.c makes, wrapped: one of them fails, or does half of its work, as is planned. What the
- * store allocates is counted. bench.sh links by --wrap what is named __wrap here. For one file that includes it. */
+/* The calls of the system that store.c makes, wrapped: one of them fails, does half of its work, or comes after another program
+ * has changed the file, as is planned. What the store allocates is counted. bench.sh links by --wrap what is named __wrap here.
+ * For one file that includes it. */
 #ifndef STORE_WRAPPED_H
 #define STORE_WRAPPED_H
 
@@ -27,13 +28,15 @@ enum how {
     INTERRUPTED,  /* the chosen call, if it transfers bytes, by EINTR */
     SHORTENED,    /* it transfers half of its bytes, and does not fail */
     BROKEN_OFF,   /* so, and the next that transfers fails */
-    LOCKED        /* every lock is another's */
+    LOCKED,       /* every lock is another's */
+    UNHARMED      /* none fails */
 };
 
 static struct {
     bool armed;
     enum how how;
     long chosen, calls;
+    void (*before)(void); /* what another program does before the chosen call, or NULL */
     enum kind kind; /* of the call that failed */
     int error;      /* 0 until one failed */
 } plan;
@@ -45,6 +48,11 @@ static bool fails(enum kind kind)
     if (!plan.armed)
         return false;
     now = ++plan.calls == plan.chosen;
+    if (now && plan.before != NULL) {
+        plan.armed = false;
+        plan.before();
+        plan.armed = true;
+    }
     switch (plan.how) {
     case ONCE: break;
     case FROM_THEN_ON: now = plan.calls >= plan.chosen && (now || kind == TRANSFER || kind == SYNC); break;
