@@ -169,8 +169,12 @@ def replaced_by_other_slots(bench):
 
 
 def left_dirty(bench):
-    """What a dead writer left is not believed beside a rebuild, whatever its number of slots."""
-    image, words = changed(MANY_IMAGE, state=second.DIRTY), ("rebuild", "cache", "many_new.csv")
+    left_dirty_beside_a_rebuild(bench, MANY_IMAGE)
+
+
+def left_dirty_beside_a_rebuild(bench, image):
+    """What a dead writer left is not believed beside a rebuild, whatever its numbers of slots and buckets."""
+    image, words = changed(image, state=second.DIRTY), ("rebuild", "cache", "many_new.csv")
     for number in range(1, len(calls_of(bench, image, *words)) - 1):
         write("cache", image)
         with held(bench, number, *words):

@@ -27,15 +27,14 @@ def points_to_hold(calls):
     return sorted(points | within)
 
 
-def beside_a_held_writer(bench):
+def beside_a_writer_held(bench, image, calls, points):
     """Readers while a writer holds the lock and stands still: between commits they see the last one, within one busy. What
     is DIRTY has no checksum."""
-    calls = calls_of(bench, MANY_IMAGE, *LOAD_MANY)
     commits = commits_of(calls)
-    for number, half in bench.some(points_to_hold(calls)):
+    for number, half in points:
         published = sum(even < number + half for _, even in commits)
         within = any(odd < number and number + half <= even for odd, even in commits)
-        write("cache", MANY_IMAGE)
+        write("cache", image)
         with held(bench, number, *LOAD_MANY, half=half):
             tried = [("list",), ("check",), ("get", RANDOM.choice(MANY_NEW).serial)]
             started = [bench.start(command, "cache", *words) for command, *words in tried]
@@ -45,6 +44,11 @@ def beside_a_held_writer(bench):
                 if words == ("list",) and not within:
                     same("list of the last commit", ran.out, rows(BETWEEN[published]))
                 COUNTS["reads beside a held writer"] += 1
+
+
+def beside_a_held_writer(bench):
+    calls = calls_of(bench, MANY_IMAGE, *LOAD_MANY)
+    beside_a_writer_held(bench, MANY_IMAGE, calls, bench.some(points_to_hold(calls)))
 
 
 def exports_are_whole(bench):

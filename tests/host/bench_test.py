@@ -19,9 +19,11 @@ from bench_commands import COMMANDS_PARTS
 from bench_damage import DAMAGE_PARTS
 from bench_kills import KILLS_PARTS
 from bench_readers import READERS_PARTS
+from bench_shapes import SHAPES_PARTS
 from bench_tools import COUNTED, COUNTS, MANY_NEW, MANY_OLD, NEW, OLD, WORK, Bench, path_of, write_certificates
 
-PARTS = (COMMANDS_PARTS, CERTIFICATES_PARTS, CAPACITY_PARTS, DAMAGE_PARTS, CALLS_PARTS, KILLS_PARTS, READERS_PARTS)
+PARTS = (COMMANDS_PARTS, CERTIFICATES_PARTS, CAPACITY_PARTS, SHAPES_PARTS, DAMAGE_PARTS, CALLS_PARTS, KILLS_PARTS,
+         READERS_PARTS)
 
 
 def main():

@@ -38,6 +38,8 @@ def struck_out(image):
 
 MARK = b"slotsCRC"
 UNKNOWN, NONE, RIGHT, WRONG = "unknown", "none", "right", "wrong"
+CHECKSUM_SAID = {NONE: "has no checksum, a changed gain would not be noticed: load or rebuild adds one\n",
+                 WRONG: "has a wrong checksum: bytes have changed since they were written\n"}
 
 
 @lru_cache
@@ -87,6 +89,11 @@ def stored(image, certificates, put=True):
 def fresh(options=OPTIONS):
     """What create makes."""
     return stored(images.fresh(options), [])
+
+
+def partners(slots, buckets):
+    """A fresh image as a partner makes it: with another number of buckets, and without the mark."""
+    return bytes(images.fresh(of(slots), buckets))
 
 
 def without_generation(image):
@@ -186,10 +193,11 @@ def reads(bench, name, command, *words):
 
 
 def rebuilt(bench, name, certificates):
-    """What a rebuild prints that succeeds, and complains of nothing but the file's length."""
+    """What a rebuild prints that succeeds, and complains of nothing but the file's length and checksum."""
     before = read(name)
+    said = length_said(before) + [CHECKSUM_SAID.get(checksum(before, 0), "")]
     ran = bench.run("rebuild", name, certificates)
-    same(f"rebuild of {name}", (ran.status, ran.err), (0, "".join(f"bench: {name} {line}" for line in length_said(before))))
+    same(f"rebuild of {name}", (ran.status, ran.err), (0, "".join(f"bench: {name} {line}" for line in filter(None, said))))
     return ran.out
 
 
