@@ -56,6 +56,10 @@ def largest(program, block):
     for key, index in ((BENCH.key_size, BENCH.index_size), (64, 256)):
         total = total_size(program, limit._replace(key_size=key, index_size=index))
         yield f"key_size {key}, index_size {index}: total size {total:,}"
+    yield ""
+    # with the most buckets, which create does not make
+    total += 16 * (second.BUCKET_LIMIT - second.bucket_count(limit))
+    yield f"with bucket_count {second.BUCKET_LIMIT:,}: total size {total:,}"
 
 
 def digests(program, block):
