@@ -23,11 +23,11 @@ use Rattle.header.specs.Sizes.{most-bucket-count, sizesToOpen, sizesToCr
 unfoldable pub powerOfTwo : ℕ → Bool
 powerOfTwo n = eqb (powerFrom 64 0 n) n
 
--- "Options outside the sizes, ordered above 1, or role above 2: 7.", by whether they are inside the sizes
+-- the test of options that are inside the sizes, or not
 abbrev pub optionsTest : Bool → Options → List (Bool × ℕ)
 optionsTest inside o = (not inside || ltb 1 (o .ordered) || ltb holds-the-lock (o .role), invalid-input) ∷ []
 
--- "1." Options as above: of a call that opens an image
+-- "1. Options outside the sizes, ordered above 1, or role above 2: 7.": of a call that opens an image
 unfoldable pub test1 : Options → List (Bool × ℕ)
 test1 o = optionsTest (sizesToOpen o) o
 

@@ -2,22 +2,24 @@
 -- Assumes nothing.
 use mathlib.Core.Path.{refl}
 use Rattle.numbers.specs.Bytes.{part, word, bytesOf, put, same, below, allZero}
+use Rattle.numbers.specs.Signed.{signed}
 use Rattle.digests.specs.Crc.{crcBit, crcBits, crcFrom, crc32c, headerCrc}
 use Rattle.digests.specs.Fnv.{fnvFrom, fnv1a64}
 use Rattle.probing.specs.Counting.{sumTo, countTo, allTo}
 use Rattle.probing.specs.Table.{liveCount, fullCount, tombstoneCount}
 use Rattle.probing.specs.Probe.{examine, probeFrom, probe}
-use Rattle.probing.specs.Check.{bucketsRight, metasRight, eachFound, countsEqual, neverFall, checks}
+use Rattle.probing.specs.Check.{bucketsRight, metasRight, eachFound, countsEqual, neverFall, checks, probes}
 use Rattle.probing.specs.Change.{placeFrom, place}
 use Rattle.header.specs.Fields.{bytesIn, value}
 use Rattle.header.specs.FirstOf.{firstOf}
 use Rattle.header.specs.Counters.{withCounters, withSlots}
 use Rattle.header.specs.Sizes.{sizesToOpen, sizesToCreate, capacityFits, align8, slotSize, powerFrom, bucketCount, bucketsOffset, total, totalSize}
+use Rattle.header.specs.Extent.{extentOf}
 use Rattle.header.specs.HeaderTest.{powerOfTwo, test1, createTest1, test2, test3, test4, test5, test6, test7, test8, test9, imageTotal, test10, test11, test12, headerTests, headerTest, layoutOf, shapeOf}
 use Rattle.image.specs.Table as T
-use Rattle.image.specs.Table.{slotAt, bucketAt, metaOf, keyOf, bucketFrom, bucketOf, tableOf}
+use Rattle.image.specs.Table.{slotAt, revisionAt, bucketAt, metaOf, revisionOf, keyOf, bucketFrom, bucketOf, tableOf}
 use Rattle.image.specs.Lookup.{probeOf, isLive, lookupIn, lookupOf}
-use Rattle.image.specs.Check.{passes}
+use Rattle.image.specs.Check.{passes, checkIn, checkOf}
 use Rattle.writing.specs.Write.{withField, withFields, sealed}
 use Rattle.writing.specs.Create.{createTests, freshFields, fresh, createOf}
 use Rattle.writing.specs.State.{writingTests, cleanTest, generationTest, inState, beginOf, checkpointOf, published, invalidateTests, invalidateOf, userTests, withUserData, setUserFieldsOf}
@@ -28,12 +30,13 @@ use Rattle.applying.specs.Apply.{acted, actedTo, afterLive, afterNew, tidied, r
 use Rattle.commit.specs.Commit.{fallsBehind, soundTests, roomTests, furtherTests, commitTests, commitOf}
 use Rattle.pins.specs.Story.{Steps}
 use Rattle.pins.specs.OrderedStory.{OrderedSteps}
+use Rattle.pins.specs.PartnerStory.{PartnerSteps}
 use Rattle.pins.specs.Refusals.{HeaderRefusals, FurtherRefusals, CheckRefusals}
 use Rattle.pins.proofs.MostRecords.{most-records-pass}
 
 -- all that is computed with
 computed : Unit {0}
-unfolding part word bytesOf put same allZero crcBit crcBits crcFrom crc32c headerCrc fnvFrom fnv1a64 sumTo countTo allTo liveCount fullCount tombstoneCount examine probeFrom probe bucketsRight metasRight eachFound countsEqual checks placeFrom place bytesIn value firstOf sizesToOpen sizesToCreate capacityFits align8 slotSize powerFrom bucketCount bucketsOffset total totalSize powerOfTwo test1 createTest1 test2 test3 test4 test5 test6 test7 test8 test9 imageTotal test10 test11 test12 headerTests headerTest layoutOf shapeOf slotAt T.keyAt bucketAt metaOf keyOf bucketFrom bucketOf tableOf probeOf isLive passes withField withFields sealed createTests freshFields fresh createOf writingTests cleanTest generationTest inState beginOf checkpointOf published userTests removed indexed appended counted recordCount recordAt metaIn keyIn keyPadding revisionAndIndex indexPadding malformed someMalformed batchWrong recordKey decides isNew newCount rank firstTo newAt fallsBehind soundTests roomTests furtherTests commitTests acted actedTo afterLive withCounters withSlots afterNew tidied recounted settled committed commitOf invalidateTests invalidateOf withUserData setUserFieldsOf rebuiltTo rebuilt neverFall below lookupIn lookupOf
+unfolding part word bytesOf put same allZero crcBit crcBits crcFrom crc32c headerCrc fnvFrom fnv1a64 sumTo countTo allTo liveCount fullCount tombstoneCount examine probeFrom probe bucketsRight metasRight eachFound countsEqual checks placeFrom place bytesIn value firstOf sizesToOpen sizesToCreate capacityFits align8 slotSize powerFrom bucketCount bucketsOffset total totalSize powerOfTwo test1 createTest1 test2 test3 test4 test5 test6 test7 test8 test9 imageTotal test10 test11 test12 headerTests headerTest layoutOf shapeOf slotAt T.keyAt bucketAt metaOf keyOf bucketFrom bucketOf tableOf probeOf isLive passes withField withFields sealed createTests freshFields fresh createOf writingTests cleanTest generationTest inState beginOf checkpointOf published userTests removed indexed appended counted recordCount recordAt metaIn keyIn keyPadding revisionAndIndex indexPadding malformed someMalformed batchWrong recordKey decides isNew newCount rank firstTo newAt fallsBehind soundTests roomTests furtherTests commitTests acted actedTo afterLive withCounters withSlots afterNew tidied recounted settled committed commitOf invalidateTests invalidateOf withUserData setUserFieldsOf rebuiltTo rebuilt neverFall below lookupIn lookupOf revisionAt revisionOf signed probes checkIn checkOf extentOf
 computed = tt
 
 pub steps : Steps
@@ -80,6 +83,19 @@ ordered-steps =
       reader-passes = refl;
       two-buckets = refl;
       one-bucket = refl;
+    }
+
+pub partner-steps : PartnerSteps
+unfolding computed
+partner-steps =
+    record {
+      home-64 = refl;
+      home-72 = refl;
+      told = refl;
+      puts = refl;
+      finds = refl;
+      checks = refl;
+      rebuilds = refl;
     }
 
 pub header-refusals : HeaderRefusals
