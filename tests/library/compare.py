@@ -272,8 +272,8 @@ def shapes(comparison):
 
 
 def largest(comparison):
-    """Up to the most buckets, beside one slot and beside the most slots. Such an image has 64 MiB or more: so only calls that do
-    not walk it; large.py makes a commit."""
+    """Up to the most buckets, beside one slot and beside the most slots. Such an image has 64 MiB or more: so only calls that
+    do not walk it; large.py makes a commit."""
     limit = second.BUCKET_LIMIT
     tried = [(1, 2**power) for power in range(12, limit.bit_length())]
     tried += [(second.CAPACITY_LIMIT, buckets) for buckets in (limit // 4, limit // 2, limit)]
