@@ -16,7 +16,7 @@ use Rattle.commit.specs.Commit.{commitOf}
 use Rattle.demands.specs.Owes.{written}
 use Rattle.host.specs.Options.{optionsOf}
 use Rattle.pins.specs.Literal.{Layout, zeros, header, no-user, slot, bucket}
-use Rattle.pins.specs.Story.{batch1}
+use Rattle.pins.specs.Story.{threeSlots, batch1}
 
 -- with capacity 0
 abbrev pub partner : Options
@@ -24,16 +24,7 @@ partner = optionsOf 1 1 0 7 0 2
 
 -- the total is 416
 abbrev pub layout : Layout
-layout =
-    record {
-      «key_size» = 1;
-      «index_size» = 1;
-      «slot_size» = 32;
-      flags = 0;
-      «slot_capacity» = 3;
-      «bucket_count» = 4;
-      «buckets_offset» = 352;
-    }
+layout = threeSlots 4
 
 -- deletes of both keys of the story's first batch
 abbrev pub deletes : List ℕ

@@ -30,18 +30,22 @@ options =
 abbrev pub reader : Options
 reader = withRole options 0
 
--- the total is 480
-abbrev pub layout : Layout
-layout =
+-- three slots, and so many buckets
+abbrev pub threeSlots : ℕ → Layout
+threeSlots buckets =
     record {
       «key_size» = 1;
       «index_size» = 1;
       «slot_size» = 32;
       flags = 0;
       «slot_capacity» = 3;
-      «bucket_count» = 8;
+      «bucket_count» = buckets;
       «buckets_offset» = 352;
     }
+
+-- the total is 480
+abbrev pub layout : Layout
+layout = threeSlots 8
 
 -- the buckets by slot_plus1 of the first and of the last, which have the hashes of the keys 64 and 72; the others are EMPTY
 abbrev pub buckets : (first last : ℕ) → List ℕ
