@@ -32,7 +32,7 @@ static const char USAGE[] =
     "       bench find FILE HALF-A-SERIAL           show every certificate whose serial begins so\n"
     "       bench list FILE                         show all certificates, as load reads them\n"
     "       bench export FILE CERTIFICATES.csv      write them to a new file\n"
-    "       bench check FILE                        make the full check, and compare the checksum\n"
+    "       bench check FILE                        make the full check, compare the checksum, show slots and buckets\n"
     "       bench drop FILE SERIAL                  delete one certificate\n"
     "       bench --help, bench --version\n"
     "\n"

@@ -1,7 +1,8 @@
 -- "3. For any image that the full check passes, a lookup under the same options and role with a key of the right length
 -- reports the number of buckets the probe rule examines, at most live keys plus tombstones plus one. With no tombstones, the
 -- sum of these numbers over the live keys follows from their home buckets alone, whatever order they came in: it is the
--- number of live keys plus every bucket's overflow."
+-- number of live keys plus every bucket's overflow." For images of any capacity and B that the header test passes (CR 10): B is
+-- the image's own, `tableIn image .B`.
 -- Assumes nothing.
 use Prim.Native.Nat.{ℕ, _+_, _≤_, _<_}
 use mathlib.Core.Path.{_≡_}

@@ -96,6 +96,7 @@ partner-steps =
       finds = refl;
       checks = refl;
       rebuilds = refl;
+      passes = refl;
     }
 
 pub header-refusals : HeaderRefusals

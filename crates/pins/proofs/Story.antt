@@ -1,10 +1,12 @@
 -- The stories as histories, and what lookup and open check then answer, by demand 2.
 -- Assumes nothing.
-use Prim.Native.Nat.{ℕ}
+use Prim.Native.Nat.{ℕ, zero, suc}
+use mathlib.Core.Bool.{Bool, true, _&&_, and-eq-true-iff}
 use mathlib.Core.Path.{_≡_, refl, ap, subst}
-use mathlib.Core.List.{List, [], _∷_, _++_}
+use mathlib.Core.List.{List, [], _∷_}
 use native.Mathlib.Omega.{arith}
-use lib.Dec.{lit<}
+use borrow.Author.Tests.{ltb-true}
+use lib.Dec.{lit<, ltb}
 use lib.IntN.{pos, negsuc}
 use Rattle.numbers.specs.Bytes.{part, word, bytesOf, same, Bytes}
 use Rattle.numbers.specs.Signed.{signed}
@@ -13,32 +15,36 @@ use Rattle.header.specs.declared.open.UserFields.{UserFields}
 use Rattle.header.specs.Answer.{done}
 use Rattle.header.specs.Fields.{bytesIn, value}
 use Rattle.header.specs.HeaderTest.{layoutOf, shapeOf}
-use Rattle.header.specs.Open.{noFields, openOf}
+use Rattle.header.specs.Open.{userFields, noFields, openOf}
 use Rattle.header.specs.Sizes.{align8}
+use Rattle.image.specs.declared.check.Checked.{Checked}
 use Rattle.writing.specs.Write.{Written}
 use Rattle.writing.specs.Create.{createOf}
 use Rattle.writing.specs.State.{beginOf}
-use Rattle.writing.proofs.Bytes.{append-bytes, bytes-of-bytes}
 use Rattle.batch.specs.Batch.{recordCount, recordAt, metaIn, keyIn}
 use Rattle.commit.specs.Commit.{commitOf}
 use Rattle.maps.specs.Map.{Map, entryIn, actsOn, appliedTo, applied}
 use Rattle.demands.specs.Demand2.{ReadsBack}
-use Rattle.demands.specs.History.{Word, writer, emptyMap, freshIn, History, created, begun, checkpointed, marked, committed, commit-refused}
-use Rattle.pins.specs.Literal.{words, slot}
+use Rattle.demands.specs.History.{Word, writer, emptyMap, readBy, freshIn, History, created, adopted, begun, checkpointed, marked, committed, commit-refused}
 use Rattle.demands.specs.Owes.{written}
 use Rattle.pins.specs.Story as S
 use Rattle.pins.specs.Story.{Story}
 use Rattle.pins.specs.OrderedStory as O
 use Rattle.pins.specs.OrderedStory.{OrderedStory}
+use Rattle.pins.specs.PartnerStory as P
+use Rattle.pins.specs.PartnerStory.{PartnerStory}
 use Rattle.demands.proofs.Demand2.{demand2}
-use Rattle.pins.proofs.StoriesComputed.{steps, ordered-steps}
+use Rattle.pins.proofs.StoriesComputed.{steps, ordered-steps, partner-steps}
 
-words-bytes : (width : ℕ) (xs : List ℕ) → Bytes (words width xs)
-words-bytes width [] = λ i. lit< tt
-words-bytes width (x ∷ xs) = append-bytes (bytesOf width x) (words width xs) (bytes-of-bytes width x) (words-bytes width xs)
+-- what is written out is bytes, as each number in it shows
+abbrev allBytes : List ℕ → Bool
+allBytes [] = true
+allBytes (x ∷ xs) = ltb x 256 && allBytes xs
 
-slot-bytes : (meta key revision index : ℕ) → Bytes (slot meta key revision index)
-slot-bytes meta key revision index = words-bytes 8 (meta ∷ key ∷ revision ∷ index ∷ [])
+are-bytes : (xs : List ℕ) → allBytes xs ≡ true → Bytes xs
+are-bytes [] e i = lit< tt
+are-bytes (x ∷ xs) e zero = ltb-true x 256 (and-eq-true-iff (ltb x 256) (allBytes xs) .0 e .0)
+are-bytes (x ∷ xs) e (suc i) = are-bytes xs (and-eq-true-iff (ltb x 256) (allBytes xs) .0 e .1) i
 
 answers : {x y : Written} → x ≡ y → x .answer ≡ y .answer
 answers e = ap (λ (x : Written). x .answer) e
@@ -62,21 +68,22 @@ history1 : History S.options S.image1 emptyMap noFields
 history1 = begins S.buffer (lit< tt) (answers (steps .creates)) (steps .fresh) (steps .begins)
 
 history2 : History S.options S.image2 S.map2 noFields
-history2 =
-    let bytes = append-bytes (slot 1 72 2 20) (slot 1 64 1 10) (slot-bytes 1 72 2 20) (slot-bytes 1 64 1 10) in
-    commits S.batch1 bytes (steps .puts) history1
+unfolding bytesOf
+history2 = commits S.batch1 (are-bytes S.batch1 refl) (steps .puts) history1
 
 history3 : History S.options S.image3 S.map2 S.fields
 unfolding bytesOf
 history3 =
     leaves (steps .marks)
-    (marked S.fields (record { flags = lit< tt; size = refl; bytes = words-bytes 8 S.eights }) history2 (answers (steps .marks)))
+    (marked S.fields (record { flags = lit< tt; size = refl; bytes = are-bytes (S.fields .«user_data») refl }) history2 (answers (steps .marks)))
 
 history4 : History S.options S.image4 S.map4 S.fields
-history4 = commits S.batch2 (slot-bytes 0 72 0 0) (steps .deletes) history3
+unfolding bytesOf
+history4 = commits S.batch2 (are-bytes S.batch2 refl) (steps .deletes) history3
 
 history5 : History S.options S.image5 S.map5 S.fields
-history5 = commits S.batch3 (slot-bytes 1 72 S.minus-three 30) (steps .puts-again) history4
+unfolding bytesOf
+history5 = commits S.batch3 (are-bytes S.batch3 refl) (steps .puts-again) history4
 
 history6 : History S.options S.image6 S.map5 S.fields
 history6 =
@@ -115,26 +122,26 @@ ordered1 : History O.options O.image1 emptyMap noFields
 ordered1 = begins O.buffer (lit< tt) (answers (ordered-steps .creates)) (ordered-steps .fresh) (ordered-steps .begins)
 
 ordered2 : History O.options O.image2 O.map2 noFields
-ordered2 =
-    let two = append-bytes (slot 1 O.key3 3 30) (slot 1 O.key2 2 20) (slot-bytes 1 O.key3 3 30) (slot-bytes 1 O.key2 2 20) in
-    commits O.batch1 (append-bytes (slot 1 O.key3 3 30 ++ slot 1 O.key2 2 20) (slot 1 O.key1 1 10) two (slot-bytes 1 O.key1 1 10))
-    (ordered-steps .puts) ordered1
+unfolding bytesOf
+ordered2 = commits O.batch1 (are-bytes O.batch1 refl) (ordered-steps .puts) ordered1
 
 ordered3 : History O.options O.image3 O.map3 noFields
-ordered3 = commits O.batch2 (slot-bytes 0 O.key3 0 0) (ordered-steps .deletes) ordered2
+unfolding bytesOf
+ordered3 = commits O.batch2 (are-bytes O.batch2 refl) (ordered-steps .deletes) ordered2
 
 ordered4 : History O.options O.image4 O.map4 noFields
+unfolding bytesOf
 ordered4 =
     let answer = answers (ordered-steps .refuses-order) in
     let unchanged = leaves (ordered-steps .refuses-order) (commit-refused O.below-tail ordered3 (λ a. omega (arith, a))) in
-    let bytes = append-bytes (slot 0 O.key1 0 0) (slot 1 O.key4 4 40) (slot-bytes 0 O.key1 0 0) (slot-bytes 1 O.key4 4 40) in
-    commits O.batch3 bytes (ordered-steps .puts-last) unchanged
+    commits O.batch3 (are-bytes O.batch3 refl) (ordered-steps .puts-last) unchanged
 
 ordered6 : History O.options O.image6 O.map5 noFields
+unfolding bytesOf
 ordered6 =
     let answer = answers (ordered-steps .refuses-full) in
     let unchanged = leaves (ordered-steps .refuses-full) (commit-refused O.one-more ordered4 (λ a. omega (arith, a))) in
-    leaves (ordered-steps .closes) (checkpointed (commits O.batch4 (slot-bytes 0 O.key4 0 0) (ordered-steps .rebuilds) unchanged))
+    leaves (ordered-steps .closes) (checkpointed (commits O.batch4 (are-bytes O.batch4 refl) (ordered-steps .rebuilds) unchanged))
 
 before-rebuild : ReadsBack O.options O.image4 O.map4 noFields
 before-rebuild = demand2 .reads ordered4 2 (ordered-steps .writer-passes)
@@ -154,4 +161,24 @@ ordered-story =
       lasting = after-rebuild .has (0x7F ∷ 0x03 ∷ []) (record { revision = pos 2; index = 20 ∷ [] }) refl;
       first-gone = after-rebuild .lacks (0x01 ∷ 0x09 ∷ []) refl refl;
       last-gone = after-rebuild .lacks (0x80 ∷ 0x08 ∷ []) refl refl;
+    }
+
+-- the partner's image with both keys is where its history begins
+partner2 : History P.partner P.image2 (applied (shapeOf P.image1) P.deletes (readBy P.partner P.image1)) (userFields P.image1)
+unfolding bytesOf
+partner2 =
+    let told = ap (λ (c : Checked). c .answer) (partner-steps .checks) in
+    commits P.deletes (are-bytes P.deletes refl) (partner-steps .rebuilds) (adopted 2 P.image1 (are-bytes P.image1 refl) told)
+
+partner-read : ReadsBack P.partner P.image2 (applied (shapeOf P.image1) P.deletes (readBy P.partner P.image1)) (userFields P.image1)
+partner-read = demand2 .reads partner2 2 (partner-steps .passes)
+
+pub partner-story : PartnerStory
+unfolding read
+partner-story =
+    record {
+      steps = partner-steps;
+      history = partner2;
+      first-gone = partner-read .lacks (72 ∷ []) refl refl;
+      second-gone = partner-read .lacks (64 ∷ []) refl refl;
     }

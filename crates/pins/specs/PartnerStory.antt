@@ -9,14 +9,18 @@ use Rattle.digests.specs.Fnv.{fnv1a64}
 use Rattle.header.specs.declared.options.Options.{Options}
 use Rattle.header.specs.Answer.{done}
 use Rattle.header.specs.Extent.{extentOf}
+use Rattle.header.specs.HeaderTest.{headerTest, shapeOf}
+use Rattle.header.specs.Open.{userFields}
 use Rattle.header.specs.State.{DIRTY}
 use Rattle.image.specs.Check.{checkOf}
 use Rattle.image.specs.Lookup.{lookupOf}
 use Rattle.commit.specs.Commit.{commitOf}
+use Rattle.maps.specs.Map.{applied}
+use Rattle.demands.specs.History.{readBy, History}
 use Rattle.demands.specs.Owes.{written}
 use Rattle.host.specs.Options.{optionsOf}
 use Rattle.pins.specs.Literal.{Layout, zeros, header, no-user, slot, bucket}
-use Rattle.pins.specs.Story.{threeSlots, batch1}
+use Rattle.pins.specs.Story.{threeSlots, batch1, Lacks}
 
 -- with capacity 0
 abbrev pub partner : Options
@@ -54,3 +58,11 @@ pub record PartnerSteps : Type 0 where
   pub checks : checkOf partner image1 ≡ record { answer = done; live = 2; tombstones = 0; probes = 3 }
   -- 4 x 2 tombstones are more than 4, and not more than the 8 that create would have given: rebuilt, no bucket is left
   pub rebuilds : commitOf partner image1 deletes ≡ written done image2
+  pub passes : headerTest partner image2 ≡ done
+
+pub record PartnerStory : Type 0 where
+  pub steps : PartnerSteps
+  -- a history that begins at the image with both keys, with what lookup reads there, and goes on by the deletes
+  pub history : History partner image2 (applied (shapeOf image1) deletes (readBy partner image1)) (userFields image1)
+  pub first-gone : Lacks partner image2 (72 ∷ [])
+  pub second-gone : Lacks partner image2 (64 ∷ [])
