@@ -108,7 +108,7 @@ module _ (flags : ℕ) (bytes : List ℕ) where
   user-slice-leaves = taken-leaves (eqb (length bytes) 64)
 
 -- "A key of the wrong length is refused, never cut or padded."
-wrong-length : (o : Options) (image key : List ℕ) → headerTest o image ≡ done → (length key ≡ o .«key_size» → ⊥)
+pub wrong-length : (o : Options) (image key : List ℕ) → headerTest o image ≡ done → (length key ≡ o .«key_size» → ⊥)
     → lookupOf o image key ≡ nothing invalid-input
 unfolding lookupOf shapeOf layoutOf
 wrong-length o image key z other =

@@ -18,7 +18,7 @@ use Rattle.maps.specs.Map.{Entry, mapOf}
 use Rattle.maps.proofs.MapSlots.{some-iff}
 use Rattle.maps.proofs.ReadsMap.{lookup-some, lookup-none}
 use Rattle.demands.specs.History.{readBy}
-use Rattle.demands.proofs.Demand1.{demand1}
+use Rattle.demands.proofs.Demand1.{wrong-length}
 
 module _ (o : Options) (image : List ℕ) (z : headerTest o image ≡ 0) (sound : Sound (tableOf (shapeOf image) image)) where
   abbrev s : Shape
@@ -39,7 +39,7 @@ module _ (o : Options) (image : List ℕ) (z : headerTest o image ≡ 0) (sound 
 
       lacks : (key : List ℕ) → mapOf s image key ≡ none → Dec (length key ≡ s .layout .«key_size») → readBy o image key ≡ mapOf s image key
       lacks key q (yes size) = rw (lookup-none o image key z size sound q .0, q) refl
-      lacks key q (no other) = rw (demand1 .wrong-length o image key z (λ e. other (e ∙ sym same-size)), q) refl
+      lacks key q (no other) = rw (wrong-length o image key z (λ e. other (e ∙ sym same-size)), q) refl
 
       go : (key : List ℕ) (m : Option Entry) → mapOf s image key ≡ m → readBy o image key ≡ mapOf s image key
       go key (some e) q = let l = lookup-some o image key z (key-sized key e q) sound e q in rw (l .0, l .1, l .2, q) refl
