@@ -1,6 +1,6 @@
 -- Images of any shape: capacity 0 gives what the header's capacity gives, test 9 admits every such B, and commits act on them.
 -- Assumes nothing.
-use Prim.Native.Nat.{ℕ, zero, suc, _+_, _≤_, _<_}
+use Prim.Native.Nat.{ℕ, zero, suc, _+_, _^_, _≤_, _<_}
 use mathlib.Core.Bool.{Bool, true, false, _&&_, and-false}
 use mathlib.Core.Path.{_≡_, refl, sym, ap, _∙_}
 use mathlib.Core.List.{List, _++_, append-assoc}
@@ -133,7 +133,7 @@ module _ (image : List ℕ) where
       rw (true-power B (p .0) (p .1) (omega arith), le-ltb most-bucket-count B most, lt-ltb (capacityIn image) B above) refl
 
   module _ (o : Options) (none : firstOf (eight o image) ≡ 0) where
-    larger : B < 18446744073709551616 → PowerOfTwo B → most-bucket-count < B → headerTest o image ≡ incompatible
+    larger : B < 2 ^ 64 → PowerOfTwo B → most-bucket-count < B → headerTest o image ≡ incompatible
     unfolding test9 firstOf
     larger bits p more =
         behind-eight o image none ∙ rw (true-power B (p .0) (p .1) (omega arith), lt-ltb most-bucket-count B more) refl
@@ -226,7 +226,7 @@ module _ (o : Options) (image : List ℕ) (z : headerTest o image ≡ 0) where
       (rw (← c .2) (c .0), c .1, power .1)
 
 pub foreign-shapes : ForeignShapes
-unfolding openOf extentOf lookupOf indexPart checkOf scanOf matchOf beginOf checkpointOf invalidateOf setUserFieldsOf commitOf commitTests userTests invalidateTests writingTests userDataOf setUserFieldsFrom tableOf shapeOf layoutOf
+unfolding openOf noExtent extentOf lookupOf indexPart checkOf scanOf matchOf beginOf checkpointOf invalidateOf setUserFieldsOf commitOf commitTests userTests invalidateTests writingTests userDataOf setUserFieldsFrom tableOf shapeOf layoutOf
 foreign-shapes =
     record {
       header-test = header-test;

@@ -8,7 +8,7 @@ use Rattle.probing.specs.Table.{EMPTY}
 use Rattle.header.specs.declared.options.Options.{Options}
 use Rattle.header.specs.declared.open.UserFields.{UserFields}
 use Rattle.header.specs.Answer.{done, needs-rebuild, incompatible, invalid-input}
-use Rattle.header.specs.Extent.{noExtent, extentOf}
+use Rattle.header.specs.Extent.{extentOf}
 use Rattle.header.specs.Fields as F
 use Rattle.header.specs.Fields.{value}
 use Rattle.header.specs.FirstOf.{firstOf}
@@ -96,7 +96,8 @@ pub record ForeignShapes : Type 0 where
   -- "The judged header therefore carries capacity, B and offsets to every later call.": a host is told the first two and the total
   pub told : (o : Options) (image : List ℕ) → headerTest o image ≡ done
       → extentOf o image ≡ record { capacity = capacityIn image; buckets = bucketsIn image; total = imageTotal image }
-  pub not-told : (o : Options) (image : List ℕ) → (headerTest o image ≡ done → ⊥) → extentOf o image ≡ noExtent
+  pub not-told : (o : Options) (image : List ℕ) → (headerTest o image ≡ done → ⊥)
+      → extentOf o image ≡ record { capacity = 0; buckets = 0; total = 0 }
   -- "B may be any power of two above slot_capacity, up to 4,194,304": test 9 holds for none of these, and what passes has one
   pub any-power : (image : List ℕ) → PowerOfTwo (bucketsIn image) → capacityIn image < bucketsIn image
       → bucketsIn image ≤ 4194304 → firstOf (test9 image) ≡ 0
