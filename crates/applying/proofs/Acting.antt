@@ -18,7 +18,7 @@ use Rattle.image.specs.Lookup.{probeOf}
 use Rattle.slots.specs.Slots.{rewritten, removed, rebuilt, counted}
 use Rattle.batch.specs.Batch.{recordAt, metaIn, keyIn, recordKey, decides}
 use Rattle.header.specs.Counters.{withCounters}
-use Rattle.applying.specs.Apply.{onLive, acted, tidied, recounted, settled}
+use Rattle.soundness.specs.Apply.{onLive, acted, tidied, recounted, settled}
 
 module _ (s : Shape) (image : List ℕ) where
   module _ (r : List ℕ) (n examined : ℕ) where

@@ -11,7 +11,7 @@ use Rattle.image.specs.Lookup.{isLive}
 use Rattle.batch.specs.Batch.{recordCount}
 use Rattle.batch.specs.Notes.{newBy}
 use Rattle.header.specs.Counters.{withSlots}
-use Rattle.applying.specs.Apply.{acted, actedTo, afterLive, afterNew, settled, committed}
+use Rattle.soundness.specs.Apply.{acted, actedTo, afterLive, afterNew, settled, committed}
 use Rattle.applying.specs.Prepared.{Prepared, oneAppended, appendedTo}
 use Rattle.batch.proofs.Turning.{turn-new}
 use Rattle.batch.proofs.NewRanks.{new-at}

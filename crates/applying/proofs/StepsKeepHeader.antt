@@ -24,7 +24,7 @@ use Rattle.slots.proofs.Table.Appended.{appended-around}
 use Rattle.slots.proofs.Table.Rebuilt.{rebuilt-around}
 use Rattle.batch.specs.Batch.{recordCount, recordAt, metaIn, keyIn, recordKey, decides}
 use Rattle.header.specs.Counters.{withCounters, withSlots}
-use Rattle.applying.specs.Apply.{onLive, acted, actedTo, tidied}
+use Rattle.soundness.specs.Apply.{onLive, acted, actedTo, tidied}
 use Rattle.applying.specs.Prepared.{oneAppended, appendedTo}
 use Rattle.batch.proofs.Records.{record-length}
 

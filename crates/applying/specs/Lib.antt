@@ -1,2 +1,1 @@
-pub mod Apply
 pub mod Prepared

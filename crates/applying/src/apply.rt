@@ -10,7 +10,7 @@ ghost use Rattle.image.specs.Lookup.{probeOf};
 ghost use Rattle.header.specs.Counters.{withCounters, withSlots};
 ghost use Rattle.batch.specs.Batch.{recordCount, keyIn};
 ghost use Rattle.batch.specs.Notes.{Noted, hashOf, Turned, newBy};
-ghost use Rattle.applying.specs.Apply.{onLive, acted, actedTo, tidied, settled, committed};
+ghost use Rattle.soundness.specs.Apply.{onLive, acted, actedTo, tidied, settled, committed};
 ghost use Rattle.applying.specs.Prepared.{Prepared, oneAppended, appendedTo};
 use crate::counts::count_live;
 use crate::counts::count_tombstones;

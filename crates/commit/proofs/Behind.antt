@@ -20,7 +20,7 @@ use Rattle.batch.specs.Batch.{recordCount, recordKey}
 use Rattle.batch.specs.NewKeys.{isNew, newCount, newAt}
 use Rattle.batch.proofs.Every.{every-fails}
 use Rattle.batch.proofs.NewRanks.{Ranked, new-at, rank-rises}
-use Rattle.commit.specs.Commit.{fallsBehind}
+use Rattle.soundness.specs.Commit.{fallsBehind}
 
 -- record i has no new key, or one that does not come before that of the last slot
 abbrev keeps : Shape → List ℕ → List ℕ → ℕ → Bool

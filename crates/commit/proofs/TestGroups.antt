@@ -20,8 +20,8 @@ use Rattle.writing.specs.State.{writingTests, cleanTest, generationTest, userTe
 use Rattle.writing.proofs.Tests.{past}
 use Rattle.batch.specs.Batch.{most-records, recordCount, batchWrong, someMalformed}
 use Rattle.batch.specs.NewKeys.{newCount}
-use Rattle.applying.specs.Apply.{committed}
-use Rattle.commit.specs.Commit.{soundTests, roomTests, furtherTests, commitTests, commitOf}
+use Rattle.soundness.specs.Apply.{committed}
+use Rattle.soundness.specs.Commit.{soundTests, roomTests, furtherTests, commitTests, commitOf}
 
 -- a number other than 0 that the first test does not give
 passed : (t : Bool) (k m : ℕ) → cond t (suc k) m ≡ 0 → (t ≡ false) × (m ≡ 0)

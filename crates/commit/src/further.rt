@@ -5,7 +5,7 @@ ghost use Rattle.image.specs.Lookup.{isLive};
 ghost use Rattle.header.specs.FirstOf.{firstOf};
 ghost use Rattle.batch.specs.NewKeys.{newCount, newAt};
 ghost use Rattle.batch.specs.Notes.{Noted};
-ghost use Rattle.commit.specs.Commit.{fallsBehind, soundTests, roomTests};
+ghost use Rattle.soundness.specs.Commit.{fallsBehind, soundTests, roomTests};
 use batch::batch::batch_wrong;
 use batch::batch::record_key;
 use header::answer::DONE;

@@ -23,8 +23,8 @@ use Rattle.writing.specs.State.{writingTests, cleanTest, generationTest, inStat
 use Rattle.writing.specs.Write.{Written}
 use Rattle.writing.proofs.Answers.{answers, refused}
 use Rattle.writing.proofs.Refused.{create-refused, begin-refused, checkpoint-refused, invalidate-refused, user-refused}
-use Rattle.applying.specs.Apply.{committed}
-use Rattle.commit.specs.Commit.{soundTests, roomTests, furtherTests, commitTests, commitOf}
+use Rattle.soundness.specs.Apply.{committed}
+use Rattle.soundness.specs.Commit.{soundTests, roomTests, furtherTests, commitTests, commitOf}
 use Rattle.host.specs.UserData.{setUserFieldsFrom}
 use Rattle.host.proofs.Failed.{after-failed}
 use Rattle.demands.specs.Demand1.{Among, headerNumbers, Judges, LeavesAlone, Demand1}

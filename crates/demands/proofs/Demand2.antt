@@ -31,8 +31,8 @@ use Rattle.writing.proofs.Answers.{answers, accepted}
 use Rattle.writing.proofs.Became.{invalidated-header}
 use Rattle.writing.proofs.Fresh.{fresh-value}
 use Rattle.writing.proofs.StateLaws.{checkpoint-became, invalidate-became}
-use Rattle.applying.specs.Apply.{committed}
-use Rattle.commit.specs.Commit.{soundTests, roomTests, furtherTests, commitTests, commitOf}
+use Rattle.soundness.specs.Apply.{committed}
+use Rattle.soundness.specs.Commit.{soundTests, roomTests, furtherTests, commitTests, commitOf}
 use Rattle.maps.specs.Map.{Entry, Map, mapOf}
 use Rattle.maps.proofs.ReadsMap.{lookup-some, lookup-none}
 use Rattle.demands.specs.History.{Word, writer, freshIn}

@@ -42,8 +42,8 @@ use Rattle.writing.proofs.LastingTable.{kept-shape}
 use Rattle.writing.proofs.StateLaws.{begin-became, checkpoint-became, invalidate-became}
 use Rattle.writing.proofs.Tests.{past}
 use Rattle.writing.proofs.UserLaws.{user-became}
-use Rattle.applying.specs.Apply.{committed}
-use Rattle.commit.specs.Commit.{commitTests, commitOf}
+use Rattle.soundness.specs.Apply.{committed}
+use Rattle.soundness.specs.Commit.{commitTests, commitOf}
 use Rattle.soundness.proofs.Accepted.{accepted-facts}
 use Rattle.soundness.proofs.Committed.{shapeAfter, accepted-commit}
 use Rattle.host.specs.UserData.{userDataOf, setUserFieldsFrom}

@@ -44,8 +44,8 @@ use Rattle.soundness.proofs.Accepted.{accepted-facts}
 use Rattle.soundness.proofs.Committed.{Committed, shapeAfter, accepted-commit}
 use Rattle.maps.proofs.MapLasting.{kept-map}
 use Rattle.maps.proofs.MapLaw.{commit-map}
-use Rattle.applying.specs.Apply as A
-use Rattle.commit.specs.Commit.{commitTests, commitOf}
+use Rattle.soundness.specs.Apply as A
+use Rattle.soundness.specs.Commit.{commitTests, commitOf}
 use Rattle.demands.specs.History.{Word, writer, Handed, emptyMap, readBy, freshIn, History, created, adopted, begun, checkpointed, marked, marking-refused, committed, commit-refused}
 use Rattle.demands.proofs.Created.{create-allowed, fresh-in}
 use Rattle.demands.proofs.ReadMap.{read-map}

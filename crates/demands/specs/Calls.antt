@@ -10,7 +10,7 @@ use Rattle.listing.specs.Scan.{scanOf}
 use Rattle.listing.specs.Match.{matchOf}
 use Rattle.writing.specs.Create.{createOf}
 use Rattle.writing.specs.State.{beginOf, checkpointOf, invalidateOf, setUserFieldsOf}
-use Rattle.commit.specs.Commit.{commitOf}
+use Rattle.soundness.specs.Commit.{commitOf}
 use Rattle.writing.proofs.create.create as create
 use Rattle.header.proofs.open.open_check as open-check
 use Rattle.header.proofs.extent.extent_of as extent-of

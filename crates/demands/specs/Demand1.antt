@@ -19,7 +19,7 @@ use Rattle.listing.specs.Match.{matchOf}
 use Rattle.writing.specs.Write.{Written}
 use Rattle.writing.specs.Create.{createOf}
 use Rattle.writing.specs.State.{beginOf, checkpointOf, invalidateOf, setUserFieldsOf}
-use Rattle.commit.specs.Commit.{commitOf}
+use Rattle.soundness.specs.Commit.{commitOf}
 use Rattle.host.specs.UserData.{userDataOf, setUserFieldsFrom}
 use Rattle.demands.specs.Calls.{Calls}
 use Rattle.demands.specs.Exports.{Exports}

@@ -26,8 +26,8 @@ use Rattle.listing.specs.Scan.{scanOf}
 use Rattle.listing.specs.Match.{agrees, bitsCompared, matchOf}
 use Rattle.writing.specs.Create.{fresh, createOf}
 use Rattle.writing.specs.State.{beginOf, checkpointOf, invalidateOf}
-use Rattle.applying.specs.Apply.{committed}
-use Rattle.commit.specs.Commit.{commitTests, commitOf}
+use Rattle.soundness.specs.Apply.{committed}
+use Rattle.soundness.specs.Commit.{commitTests, commitOf}
 use Rattle.maps.specs.Map.{Entry, Map}
 use Rattle.demands.specs.History.{Word, writer, freshIn, History}
 use Rattle.demands.specs.Listings.{RightPattern, Roomy, Lists, Piece}

@@ -12,7 +12,7 @@ use Rattle.listing.specs.Scan.{scanOf}
 use Rattle.listing.specs.Match.{matchOf}
 use Rattle.writing.specs.Create.{createOf}
 use Rattle.writing.specs.State.{beginOf, checkpointOf, invalidateOf}
-use Rattle.commit.specs.Commit.{commitOf}
+use Rattle.soundness.specs.Commit.{commitOf}
 use Rattle.host.specs.Order.{orderNumber}
 use Rattle.host.specs.Places.{totalOf, keyPlace, indexPlace}
 use Rattle.host.specs.Results.{reported, lookupReport, checkReport, reportedListing, listingReport}

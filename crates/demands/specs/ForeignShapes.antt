@@ -21,7 +21,7 @@ use Rattle.listing.specs.Scan.{scanOf}
 use Rattle.listing.specs.Match.{matchOf}
 use Rattle.writing.specs.Create.{createOf}
 use Rattle.writing.specs.State.{beginOf, checkpointOf, invalidateOf, setUserFieldsOf}
-use Rattle.commit.specs.Commit.{commitOf}
+use Rattle.soundness.specs.Commit.{commitOf}
 use Rattle.host.specs.UserData.{userDataOf, setUserFieldsFrom}
 use Rattle.maps.specs.Map.{applied}
 use Rattle.demands.specs.Before.{seven, eight}

@@ -20,7 +20,7 @@ use Rattle.image.specs.Lookup.{lookupOf, indexPart}
 use Rattle.image.specs.Check.{checkOf}
 use Rattle.writing.specs.Create.{createOf}
 use Rattle.writing.specs.State.{beginOf, checkpointOf, setUserFieldsOf}
-use Rattle.commit.specs.Commit.{commitOf}
+use Rattle.soundness.specs.Commit.{commitOf}
 use Rattle.maps.specs.Map.{Map, applied}
 
 -- what is handed over are numbers of 64 bits, as what is lent are bytes: the language sees to both

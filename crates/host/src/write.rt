@@ -2,7 +2,7 @@
 ghost use mathlib.Core.Path.{_≡_};
 ghost use Rattle.header.specs.Answer.{invalid-input};
 ghost use Rattle.header.specs.HeaderTest.{headerTest, afterTest};
-ghost use Rattle.commit.specs.Commit.{commitOf};
+ghost use Rattle.soundness.specs.Commit.{commitOf};
 ghost use Rattle.writing.specs.Create.{createOf};
 ghost use Rattle.writing.specs.Write.{Leaves};
 ghost use Rattle.writing.specs.State.{beginOf, checkpointOf, invalidateOf};

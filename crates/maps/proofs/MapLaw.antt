@@ -22,8 +22,8 @@ use Rattle.slots.proofs.Table.Around.{around-generation, around-shape}
 use Rattle.batch.specs.Batch.{recordCount, recordAt, metaIn, recordKey}
 use Rattle.batch.specs.NewKeys.{newCount, rank, newAt}
 use Rattle.header.specs.Counters.{withSlots}
-use Rattle.applying.specs.Apply.{afterLive, afterNew, committed}
-use Rattle.commit.specs.Commit.{commitTests, commitOf}
+use Rattle.soundness.specs.Apply.{afterLive, afterNew, committed}
+use Rattle.soundness.specs.Commit.{commitTests, commitOf}
 use Rattle.maps.specs.Map.{Entry, mapOf, entryIn, applied}
 use Rattle.batch.proofs.NewRanks.{is-new, new-is, new-at, rank-inside, new-placed}
 use Rattle.soundness.proofs.Grown.{Ready, new-grown}

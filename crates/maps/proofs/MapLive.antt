@@ -23,7 +23,7 @@ use Rattle.slots.specs.Slots.{rewritten, removed}
 use Rattle.batch.specs.Batch.{recordCount, recordAt, metaIn, keyIn, recordKey, decides}
 use Rattle.batch.specs.NewKeys.{isNew}
 use Rattle.batch.proofs.NewRanks.{is-new}
-use Rattle.applying.specs.Apply.{onLive, acted, actedTo, afterLive}
+use Rattle.soundness.specs.Apply.{onLive, acted, actedTo, afterLive}
 use Rattle.maps.specs.Map.{Entry, entryAt, entryIn, mapOf}
 use Rattle.batch.proofs.Records.{record-length}
 use Rattle.soundness.proofs.Formed.{Formed}

@@ -21,7 +21,7 @@ use Rattle.slots.proofs.Table.Appended.{grown}
 use Rattle.batch.specs.Batch.{recordCount, recordAt, metaIn, keyIn, recordKey}
 use Rattle.batch.specs.NewKeys.{newCount, newAt}
 use Rattle.header.specs.Counters.{withCounters, withSlots}
-use Rattle.applying.specs.Apply.{afterLive, afterNew}
+use Rattle.soundness.specs.Apply.{afterLive, afterNew}
 use Rattle.maps.specs.Map.{Entry, entryIn, mapOf}
 use Rattle.batch.proofs.Records.{record-length}
 use Rattle.batch.proofs.NewRanks.{is-new, new-at}

@@ -14,7 +14,7 @@ use Rattle.image.specs.Lookup.{probeOf}
 use Rattle.slots.specs.Slots.{counted}
 use Rattle.slots.proofs.Table.Counted as write
 use Rattle.header.specs.Counters.{withCounters, withSlots}
-use Rattle.applying.specs.Apply.{tidied, recounted, settled}
+use Rattle.soundness.specs.Apply.{tidied, recounted, settled}
 use Rattle.maps.specs.Map.{mapOf}
 use Rattle.soundness.proofs.Formed.{Formed}
 use Rattle.soundness.proofs.Settled.{is-tidy, recounted-fit, settled-shape}

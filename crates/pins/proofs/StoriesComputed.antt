@@ -26,8 +26,8 @@ use Rattle.writing.specs.State.{writingTests, cleanTest, generationTest, inStat
 use Rattle.slots.specs.Slots.{removed, indexed, appended, rebuiltTo, rebuilt, counted}
 use Rattle.batch.specs.Batch.{recordCount, recordAt, metaIn, keyIn, keyPadding, revisionAndIndex, indexPadding, malformed, someMalformed, batchWrong, recordKey, decides}
 use Rattle.batch.specs.NewKeys.{isNew, newCount, rank, firstTo, newAt}
-use Rattle.applying.specs.Apply.{acted, actedTo, afterLive, afterNew, tidied, recounted, settled, committed}
-use Rattle.commit.specs.Commit.{fallsBehind, soundTests, roomTests, furtherTests, commitTests, commitOf}
+use Rattle.soundness.specs.Apply.{acted, actedTo, afterLive, afterNew, tidied, recounted, settled, committed}
+use Rattle.soundness.specs.Commit.{fallsBehind, soundTests, roomTests, furtherTests, commitTests, commitOf}
 use Rattle.pins.specs.Story.{Steps}
 use Rattle.pins.specs.OrderedStory.{OrderedSteps}
 use Rattle.pins.specs.PartnerStory.{PartnerSteps}

@@ -22,7 +22,7 @@ use Rattle.writing.specs.Write.{Written}
 use Rattle.writing.specs.Create.{createOf}
 use Rattle.writing.specs.State.{beginOf}
 use Rattle.batch.specs.Batch.{recordCount, recordAt, metaIn, keyIn}
-use Rattle.commit.specs.Commit.{commitOf}
+use Rattle.soundness.specs.Commit.{commitOf}
 use Rattle.maps.specs.Map.{Map, entryIn, actsOn, appliedTo, applied}
 use Rattle.demands.specs.Demand2.{ReadsBack}
 use Rattle.demands.specs.History.{Word, writer, emptyMap, readBy, freshIn, History, created, adopted, begun, checkpointed, marked, committed, commit-refused}

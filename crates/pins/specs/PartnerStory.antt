@@ -14,7 +14,7 @@ use Rattle.header.specs.Open.{userFields}
 use Rattle.header.specs.State.{DIRTY}
 use Rattle.image.specs.Check.{checkOf}
 use Rattle.image.specs.Lookup.{lookupOf}
-use Rattle.commit.specs.Commit.{commitOf}
+use Rattle.soundness.specs.Commit.{commitOf}
 use Rattle.maps.specs.Map.{applied}
 use Rattle.demands.specs.History.{readBy, History}
 use Rattle.demands.specs.Owes.{written}

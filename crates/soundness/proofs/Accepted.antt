@@ -28,7 +28,7 @@ use Rattle.writing.proofs.MoreTests.{change-writing, change-clean, change-gener
 use Rattle.writing.proofs.Tests.{Holds, even-passed, state-passed, header-holds, not-invalidated}
 use Rattle.batch.specs.Batch.{batchWrong}
 use Rattle.batch.specs.NewKeys.{newCount}
-use Rattle.commit.specs.Commit.{fallsBehind, furtherTests, soundTests, roomTests, commitTests}
+use Rattle.soundness.specs.Commit.{fallsBehind, furtherTests, soundTests, roomTests, commitTests}
 use Rattle.soundness.proofs.Formed.{Formed, passes-formed}
 use Rattle.soundness.proofs.Grown.{Ready}
 

@@ -29,8 +29,8 @@ use Rattle.slots.proofs.Table.Counted as write
 use Rattle.batch.specs.Batch.{recordCount, recordAt}
 use Rattle.batch.specs.NewKeys.{newCount, newAt}
 use Rattle.header.specs.Counters.{withCounters, withSlots}
-use Rattle.applying.specs.Apply.{afterLive, afterNew, tidied, recounted, committed}
-use Rattle.commit.specs.Commit.{commitTests, commitOf}
+use Rattle.soundness.specs.Apply.{afterLive, afterNew, tidied, recounted, committed}
+use Rattle.soundness.specs.Commit.{commitTests, commitOf}
 use Rattle.soundness.proofs.Live.{Spared, Kept, live-kept}
 use Rattle.soundness.proofs.Grown.{Grown, new-grown}
 use Rattle.soundness.proofs.Settled.{is-tidy, settled-length, settled-slot, settled-shape, settled-passes}

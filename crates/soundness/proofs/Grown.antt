@@ -28,8 +28,8 @@ use Rattle.slots.proofs.Table.Appended.{Holds, holds-then, grown, grown-shaped,
 use Rattle.batch.specs.Batch.{recordCount, recordAt, metaIn, keyIn, recordKey}
 use Rattle.batch.specs.NewKeys.{isNew, newCount, newAt}
 use Rattle.header.specs.Counters.{withCounters, withSlots}
-use Rattle.applying.specs.Apply.{afterLive, afterNew}
-use Rattle.commit.specs.Commit.{fallsBehind}
+use Rattle.soundness.specs.Apply.{afterLive, afterNew}
+use Rattle.soundness.specs.Commit.{fallsBehind}
 use Rattle.batch.proofs.Records.{record-length}
 use Rattle.soundness.proofs.Formed.{Formed, formed-clip, clip-formed, inserted-formed}
 use Rattle.soundness.proofs.Live.{Kept, live-kept}

@@ -28,7 +28,7 @@ use Rattle.writing.proofs.UserLaws.{same-user}
 use Rattle.slots.proofs.Table.Around.{Around, around-bytes}
 use Rattle.slots.proofs.Table.Counted as write
 use Rattle.header.specs.Counters.{withCounters, withSlots}
-use Rattle.applying.specs.Apply.{tidied, recounted, settled}
+use Rattle.soundness.specs.Apply.{tidied, recounted, settled}
 use Rattle.soundness.proofs.Formed.{Formed}
 use Rattle.soundness.proofs.Settled.{is-tidy, recounted-fit, settled-length}
 

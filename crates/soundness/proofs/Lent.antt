@@ -17,7 +17,7 @@ use Rattle.slots.proofs.Table.Lent.{rewritten-lent, removed-lent, appended-lent
 use Rattle.batch.specs.Batch.{recordCount, recordAt, metaIn, recordKey, decides}
 use Rattle.batch.specs.NewKeys.{isNew, newCount, newAt}
 use Rattle.header.specs.Counters.{withSlots}
-use Rattle.applying.specs.Apply.{onLive, acted, actedTo, afterLive, afterNew, tidied, recounted, settled, committed}
+use Rattle.soundness.specs.Apply.{onLive, acted, actedTo, afterLive, afterNew, tidied, recounted, settled, committed}
 
 -- one of two lists
 either-lent : (b : Bool) (x y : List ℕ) → Bytes x → Bytes y → Bytes (cond b x y)

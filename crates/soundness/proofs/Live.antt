@@ -27,7 +27,7 @@ use Rattle.slots.proofs.Table.Rewritten.{rewritten-around, rewritten-meta, rewr
 use Rattle.slots.proofs.Table.Removed.{removed-around, removed-meta, removed-other, removed-body, removed-table}
 use Rattle.batch.specs.Batch.{recordCount, recordAt, metaIn, recordKey, decides}
 use Rattle.batch.specs.NewKeys.{isNew}
-use Rattle.applying.specs.Apply.{onLive, acted, actedTo, afterLive}
+use Rattle.soundness.specs.Apply.{onLive, acted, actedTo, afterLive}
 use Rattle.batch.proofs.Records.{record-length}
 use Rattle.batch.proofs.NewRanks.{is-new}
 use Rattle.soundness.proofs.Formed.{Formed, formed-clip, clip-formed, deleted-formed}

@@ -24,7 +24,7 @@ use Rattle.slots.proofs.Table.Around.{Around, around-self, around-generation, a
 use Rattle.slots.proofs.Table.Rebuilt.{rebuilt-around, rebuilt-slot, rebuilt-table}
 use Rattle.slots.proofs.Table.Counted as write
 use Rattle.header.specs.Counters.{withCounters, withSlots}
-use Rattle.applying.specs.Apply.{tidied, recounted, settled}
+use Rattle.soundness.specs.Apply.{tidied, recounted, settled}
 use Rattle.soundness.proofs.Formed.{Formed, formed-clip, clip-formed, rebuilt-formed, rebuilt-clear, formed-passes}
 
 -- What is left after "if 4 x tombstones > B, the index is rebuilt".

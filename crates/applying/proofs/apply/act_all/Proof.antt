@@ -7,7 +7,7 @@ use mathlib.Core.Path.{_≡_, refl, ap, _∙_}
 use native.Mathlib.Numerals.{add-one}
 use native.Mathlib.Omega.{arith}
 use Rattle.applying.proofs.StepsKeepHeader.{live-all-kept}
-use Rattle.applying.specs.Apply.{acted, actedTo}
+use Rattle.soundness.specs.Apply.{acted, actedTo}
 use Rattle.batch.specs.Batch.{recordCount}
 use Rattle.batch.specs.Notes.{newBy}
 use Rattle.header.specs.Shaped.{Shaped}

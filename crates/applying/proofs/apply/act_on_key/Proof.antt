@@ -3,7 +3,7 @@
 use borrow.Author.Needs.{needs}
 use mathlib.Core.Path.{_≡_, ap, _∙_, sym}
 use Rattle.applying.proofs.Acting.{found-facts}
-use Rattle.applying.specs.Apply.{onLive}
+use Rattle.soundness.specs.Apply.{onLive}
 use Rattle.batch.specs.Batch.{keyIn}
 use Rattle.digests.specs.Fnv.{fnv1a64}
 use Rattle.image.proofs.Looked.{heard, told-end}

@@ -7,7 +7,7 @@ use mathlib.Core.Path.{_≡_, sym, _∙_, subst}
 use native.Mathlib.Omega.{arith}
 use Rattle.applying.proofs.Applied.{order-below, applied}
 use Rattle.applying.proofs.StepsKeepHeader.{slots-shaped, live-all-kept, new-all-kept}
-use Rattle.applying.specs.Apply.{actedTo}
+use Rattle.soundness.specs.Apply.{actedTo}
 use Rattle.applying.specs.Prepared.{appendedTo}
 use Rattle.batch.specs.Batch.{recordCount}
 use Rattle.batch.specs.Notes.{newBy}

@@ -14,7 +14,7 @@ use Rattle.writing.proofs.StateLaws.{next-fits}
 use Rattle.writing.proofs.Verdicts.{told-passed, told-shape, told-number}
 use Rattle.writing.proofs.MoreTests.{change-writing, change-generation}
 use Rattle.writing.proofs.Roles.{passed-header, passed-long, passed-even}
-use Rattle.commit.specs.Commit.{commitOf}
+use Rattle.soundness.specs.Commit.{commitOf}
 use Rattle.commit.proofs.TestGroups.{commit-stops, commit-further}
 use borrow.Author.Needs.{needs}
 use Rattle.commit.proofs.commit.commit_batch.Statement.{statement}

@@ -5,7 +5,7 @@ use borrow.Author.Needs.{needs}
 use borrow.Author.Tests.{lt-ltb, le-ltb}
 use native.Mathlib.Omega.{arith}
 use Rattle.batch.specs.NewKeys.{newCount}
-use Rattle.commit.specs.Commit.{roomTests}
+use Rattle.soundness.specs.Commit.{roomTests}
 use Rattle.header.specs.FirstOf.{firstOf}
 use Rattle.image.specs.Lookup.{isLive}
 use Rattle.commit.proofs.further.room_test.Statement.{statement}

@@ -2,7 +2,7 @@
 -- Assumes nothing.
 use borrow.Author.Tests.{not-true, not-false}
 use Rattle.header.specs.FirstOf.{firstOf}
-use Rattle.commit.specs.Commit.{soundTests}
+use Rattle.soundness.specs.Commit.{soundTests}
 use borrow.Author.Needs.{needs}
 use Rattle.commit.proofs.further.sound_test.Statement.{statement}
 use Rattle.commit.proofs.further.sound_test.Tie as tie

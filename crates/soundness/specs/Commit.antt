@@ -18,7 +18,7 @@ use Rattle.writing.specs.Write.{Written, unless}
 use Rattle.writing.specs.State.{userTests}
 use Rattle.batch.specs.Batch.{recordCount, recordKey, batchWrong}
 use Rattle.batch.specs.NewKeys.{isNew, newCount}
-use Rattle.applying.specs.Apply.{committed}
+use Rattle.soundness.specs.Apply.{committed}
 
 -- "Ordered, highwater above 0, and some new key below the key of slot highwater - 1, live or deleted"
 unfoldable pub fallsBehind : Shape → List ℕ → List ℕ → Bool
