@@ -1,44 +1,40 @@
 -- What a record does to the image, by what it depends on.
 -- Assumes nothing.
-use Prim.Native.Nat.{ℕ, _+_, _*_, _-_, _%_, _≤_, _<_}
+use Prim.Native.Nat.{ℕ, _*_, _≤_, _<_}
 use mathlib.Core.Path.{_≡_, refl, ap, _∙_}
 use mathlib.Core.Bool.{Bool, true, false, not, _&&_}
 use mathlib.Core.List.{List}
+use native.Mathlib.Nat.{mod-lt}
 use native.Mathlib.Omega.{arith}
-use borrow.Author.Tests.{eq-eqb, ne-eqb, lt-ltb, le-ltb}
-use Rattle.digests.specs.Fnv.{fnv1a64}
-use Rattle.probing.specs.Probe.{found}
+use borrow.Author.Tests.{lt-ltb, le-ltb}
+use Rattle.probing.specs.Probe.{Probed, found, lastOf, countOf}
+use Rattle.probing.specs.Report.{report}
 use Rattle.probing.specs.Table.{liveCount, tombstoneCount}
 use Rattle.probing.proofs.Counting.{count-le}
-use Rattle.probing.proofs.Reading.Ends.{found-run}
 use Rattle.header.specs.declared.shape.Shape.{Shape}
 use Rattle.header.specs.Shaped.{Shaped}
 use Rattle.image.specs.Table.{tableOf}
 use Rattle.image.specs.Lookup.{probeOf}
-use Rattle.slots.specs.Slots.{rewritten, removed, rebuilt, counted}
-use Rattle.batch.specs.Batch.{recordAt, metaIn, keyIn, recordKey, decides}
+use Rattle.image.specs.Told.{reportOf}
+use Rattle.image.specs.declared.probe.Report.{Report}
+use Rattle.image.specs.declared.probe.Probe.the-variants.{Found}
+use Rattle.image.proofs.Looked.{reported-end, found-below}
+use Rattle.slots.specs.Slots.{rebuilt, counted}
+use Rattle.batch.specs.Batch.{recordAt, keyIn, recordKey, decides}
 use Rattle.header.specs.Counters.{withCounters}
 use Rattle.soundness.specs.Apply.{onLive, acted, tidied, recounted, settled}
 
 module _ (s : Shape) (image : List ℕ) where
-  module _ (r : List ℕ) (n examined : ℕ) where
-    -- a put and a delete on a live key
-    pub put-live : metaIn r ≡ 1 → rewritten (s .layout) image n r ≡ onLive s image r (found n examined)
-    put-live e = rw (eq-eqb (metaIn r) 1 e)
-
-    pub delete-live :
-        (metaIn r ≡ 1 → ⊥) → (b : ℕ) → b ≡ (fnv1a64 (keyIn (s .layout) r) % s .layout .«bucket_count» + (examined - 1)) % s .layout .«bucket_count»
-        → removed (s .layout) image n b ≡ onLive s image r (found n examined)
-    delete-live d b e = rw (ne-eqb (metaIn r) 1 d, e)
-
-  -- what is known of a slot that the probe found
-  pub found-facts :
-      Shaped s image → (key : List ℕ) (n examined : ℕ) → probeOf s image key ≡ found n examined
-      → (n < s .layout .«slot_capacity») × (0 < examined) × (examined ≤ s .layout .«bucket_count»)
-  unfolding probeOf tableOf
-  found-facts fit key n examined e =
-      let run = found-run (tableOf s image) key n examined e in
-      (omega (arith, run .last .below, fit .highwater), run .some, run .bounded)
+  -- what is known of the slot and the bucket where the probe of a key stopped
+  pub stopped-at :
+      Shaped s image → (key : List ℕ) (r : Report) → r ≡ reportOf s image key → (n examined : ℕ) → r .end ≡ Found n examined
+      → (probeOf s image key ≡ found n examined) × (n < s .layout .«slot_capacity») × (r .bucket < s .layout .«bucket_count»)
+      × (r .bucket ≡ lastOf (tableOf s image) key examined)
+  unfolding reportOf report probeOf tableOf
+  stopped-at fit key r e n examined is =
+      let ended = reported-end s image key r e (Found n examined) is in
+      let at : r .bucket ≡ lastOf (tableOf s image) key examined = ap (λ (x : Report). x .bucket) e ∙ ap (λ (p : Probed). lastOf (tableOf s image) key (countOf p)) ended in
+      (ended, omega (arith, found-below s image key n examined ended, fit .highwater), rw at (mod-lt _ (omega (arith, fit .laid .room))), at)
 
   module _ (new : ℕ → Bool) (batch : List ℕ) (i : ℕ) where
     -- a record acts where it decides and its turn is not a later one, and does nothing elsewhere

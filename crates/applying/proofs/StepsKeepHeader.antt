@@ -1,6 +1,6 @@
 -- What the steps of a commit keep: the length and the header; so the shape still fits.
 -- Assumes nothing.
-use Prim.Native.Nat.{ℕ, zero, suc, _+_, _*_, _-_, _%_, _≤_, _<_}
+use Prim.Native.Nat.{ℕ, zero, suc, _+_, _*_, _≤_, _<_}
 use mathlib.Core.Path.{_≡_, refl}
 use mathlib.Core.Bool.{Bool, true, false, cond, not, _&&_}
 use mathlib.Core.List.{List}
@@ -8,8 +8,7 @@ use native.Mathlib.Nat.{mod-lt}
 use native.Mathlib.Omega.{arith}
 use lib.Dec.{eqb, ltb}
 use lib.ListN.{length, getD}
-use Rattle.digests.specs.Fnv.{fnv1a64}
-use Rattle.probing.specs.Probe.{Probed, found, absent, broken}
+use Rattle.probing.specs.Probe.{Probed, found, absent, broken, lastOf}
 use Rattle.probing.specs.Table.{tombstoneCount}
 use Rattle.header.specs.declared.shape.Shape.{Shape}
 use Rattle.header.specs.Shaped.{Shaped}
@@ -49,9 +48,10 @@ module _ (s : Shape) (image : List ℕ) (fit : Shaped s image) where
   live-kept :
       (r : List ℕ) → length r ≡ s .layout .«slot_size» → (p : Probed) → probeOf s image (keyIn (s .layout) r) ≡ p
       → Around image (onLive s image r p)
+  unfolding tableOf
   live-kept r l (found n count) e =
       let inside : n < s .layout .«slot_capacity» = omega (arith, found-below s image (keyIn (s .layout) r) n count e, fit .highwater) in
-      let b = (fnv1a64 (keyIn (s .layout) r) % s .layout .«bucket_count» + (count - 1)) % s .layout .«bucket_count» in
+      let b = lastOf (tableOf s image) (keyIn (s .layout) r) count in
       around-either (eqb (metaIn r) 1) (rewritten-around s image fit n inside r l)
       (removed-around s image fit n b inside (mod-lt _ (omega (arith, fit .laid .room))))
   live-kept r l (absent count) e = around-self

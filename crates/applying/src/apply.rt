@@ -1,17 +1,19 @@
 // What a batch that passed every test does to the image.
 ghost use mathlib.Core.Path.{_≡_};
-ghost use Prim.Native.Nat.{ℕ, _+_, _-_, _%_, _^_, _≤_, _<_};
+ghost use Prim.Native.Nat.{ℕ, _+_, _^_, _≤_, _<_};
 ghost use lib.ListN.{length, getD};
 ghost use Rattle.digests.specs.Fnv.{fnv1a64};
-ghost use Rattle.probing.specs.Probe.{found};
+ghost use Rattle.probing.specs.Report.{Missing};
+ghost use Rattle.probing.specs.Sound.{Sound};
 ghost use Rattle.header.specs.Fields.{value, generation};
-ghost use Rattle.header.specs.Shaped.{Shaped};
+ghost use Rattle.header.specs.Shaped.{LaidOut, Shaped};
+ghost use Rattle.image.specs.Table.{tableOf};
 ghost use Rattle.image.specs.Lookup.{probeOf};
 ghost use Rattle.header.specs.Counters.{withCounters, withSlots};
-ghost use Rattle.batch.specs.Batch.{recordCount, keyIn};
+ghost use Rattle.batch.specs.Batch.{recordCount, keyIn, recordKey};
 ghost use Rattle.batch.specs.Notes.{Noted, hashOf, Turned, newBy};
-ghost use Rattle.soundness.specs.Apply.{onLive, acted, actedTo, tidied, settled, committed};
-ghost use Rattle.applying.specs.Prepared.{Prepared, oneAppended, appendedTo};
+ghost use Rattle.soundness.specs.Apply.{onSlot, onLive, acted, actedTo, tidied, settled, committed};
+ghost use Rattle.applying.specs.Prepared.{Prepared, oneAppended, appendedTo, AllMissing};
 use crate::counts::count_live;
 use crate::counts::count_tombstones;
 use batch::batch::key_in;
@@ -29,32 +31,18 @@ use slots::slots::rebuild;
 use slots::slots::remove;
 use slots::slots::rewrite;
 
-// The last of so many buckets that the probe of a key with this hash examines.
-fn last_bucket(l: Layout, hash: u64, examined: usize) -> usize
-    requires { ⌜ (0 < examined) × (examined ≤ l .«bucket_count») ⌝ }
-    requires { ⌜ l .«bucket_count» ≤ 2 ^ 32 ⌝ }
-    ensures { λ r. ⌜ r ≡ (hash % l .«bucket_count» + (examined - 1)) % l .«bucket_count» ⌝ }
+// A put rewrites slot n, which has the record's key; a delete clears it and makes bucket b, where it stands, a TOMBSTONE.
+fn act_on_slot(image: &mut [u8], l: Layout, r: &[u8], n: usize, b: usize)
+    requires { ⌜ LaidOut l (now image) ⌝ }
+    requires { ⌜ length (now r) ≡ l .«slot_size» ⌝ }
+    requires { ⌜ (n < l .«slot_capacity») × (b < l .«bucket_count») ⌝ }
+    ensures { λ x. ⌜ now (image .exit) ≡ onSlot l (now (image .entry)) (now (r .entry)) n b ⌝ }
 {
-    let count = l.bucket_count;
-    let home = (hash % (count as u64)) as usize;
-    (home + (examined - 1)) % count
-}
-
-// A put rewrites slot n, which has the record's key; a delete clears it and makes its bucket a TOMBSTONE.
-fn act_on_slot(image: &mut [u8], s: Shape, r: &[u8], hash: u64, n: usize, examined: usize)
-    requires { ⌜ Shaped s (now image) ⌝ }
-    requires { ⌜ length (now r) ≡ s .layout .«slot_size» ⌝ }
-    requires { ⌜ hash ≡ fnv1a64 (keyIn (s .layout) (now r)) ⌝ }
-    requires { ⌜ n < s .layout .«slot_capacity» ⌝ }
-    requires { ⌜ (0 < examined) × (examined ≤ s .layout .«bucket_count») ⌝ }
-    ensures { λ x. ⌜ now (image .exit) ≡ onLive s (now (image .entry)) (now (r .entry)) (found n examined) ⌝ }
-{
-    if meta_in(r, s.layout) == 1 {
-        rewrite(image, s.layout, n, r);
+    if meta_in(r, l) == 1 {
+        rewrite(image, l, n, r);
         return;
     }
-    let b = last_bucket(s.layout, hash, examined);
-    remove(image, s.layout, n, b);
+    remove(image, l, n, b);
 }
 
 // A record, whose key has this hash, acts on its key's slot, if the key is live.
@@ -64,9 +52,10 @@ fn act_on_key(image: &mut [u8], s: Shape, r: &[u8], hash: u64)
     requires { ⌜ hash ≡ fnv1a64 (keyIn (s .layout) (now r)) ⌝ }
     ensures { λ x. ⌜ now (image .exit) ≡ onLive s (now (image .entry)) (now (r .entry)) (probeOf s (now (image .entry)) (keyIn (s .layout) (now (r .entry)))) ⌝ }
 {
-    let probed = probe_hashed(image, s, key_in(r, s.layout), hash);
-    match probed {
-        Probe::Found { slot, buckets } => act_on_slot(image, s, r, hash, slot, buckets),
+    let report = probe_hashed(image, s, key_in(r, s.layout), hash);
+    let end = report.end;
+    match end {
+        Probe::Found { slot, buckets } => act_on_slot(image, s.layout, r, slot, report.bucket),
         Probe::Absent { buckets } => {}
         Probe::Broken => {}
     }
@@ -122,12 +111,13 @@ fn with_slots(s: Shape, highwater: usize) -> Shape
     with_counters(s, highwater, s.live_count, s.bucket_tombstones)
 }
 
-// Record k of the order becomes the slot that k others come before.
+// Record k of the order, whose key is not there, becomes the slot that k others come before.
 fn append_one(image: &mut [u8], s: Shape, batch: &[u8], hashes: &[u64], order: &[u16], k: usize)
     requires { ⌜ Shaped s (now image) ⌝ }
     requires { ⌜ Noted (hashOf (s .layout) (now batch)) (recordCount (s .layout) (now batch)) (now hashes) ⌝ }
     requires { ⌜ (k < length (now order)) × (getD (now order) k 0 < recordCount (s .layout) (now batch)) ⌝ }
     requires { ⌜ s .«slot_highwater» + k < s .layout .«slot_capacity» ⌝ }
+    requires { ⌜ Missing (tableOf (withSlots s (s .«slot_highwater» + k)) (now image)) (recordKey (s .layout) (now batch) (getD (now order) k 0)) ⌝ }
     ensures { λ r. ⌜ now (image .exit) ≡ oneAppended s (now (batch .entry)) (now (order .entry)) k (now (image .entry)) ⌝ }
 {
     let i = order[k] as usize;
@@ -146,6 +136,7 @@ fn append_all(image: &mut [u8], s: Shape, batch: &[u8], hashes: &[u64], order: &
     requires { ⌜ count ≤ length (now order) ⌝ }
     requires { ⌜ s .«slot_highwater» + count ≤ s .layout .«slot_capacity» ⌝ }
     requires { ⌜ ((k : ℕ) → k < count → getD (now order) k 0 < recordCount (s .layout) (now batch)) ⌝ }
+    requires { ⌜ AllMissing s (now batch) (now order) (now image) count ⌝ }
     ensures { λ r. ⌜ now (image .exit) ≡ appendedTo s (now (batch .entry)) (now (order .entry)) (now (image .entry)) count ⌝ }
 {
     let mut k = 0;
@@ -158,6 +149,7 @@ fn append_all(image: &mut [u8], s: Shape, batch: &[u8], hashes: &[u64], order: &
 // Rebuilds the index if more than a quarter of the buckets are TOMBSTONE.
 fn tidy(image: &mut [u8], s: Shape)
     requires { ⌜ Shaped s (now image) ⌝ }
+    requires { ⌜ Sound (tableOf s (now image)) ⌝ }
     ensures { λ r. ⌜ now (image .exit) ≡ tidied s (now (image .entry)) ⌝ }
 {
     if s.layout.bucket_count < 4 * count_tombstones(image, s) {
@@ -168,6 +160,7 @@ fn tidy(image: &mut [u8], s: Shape)
 // Tidies the index, and then publishes the counters.
 fn settle(image: &mut [u8], s: Shape)
     requires { ⌜ Shaped s (now image) ⌝ }
+    requires { ⌜ Sound (tableOf s (now image)) ⌝ }
     requires { ⌜ value (now image) generation + 2 < 2 ^ 64 ⌝ }
     ensures { λ r. ⌜ now (image .exit) ≡ settled s (now (image .entry)) ⌝ }
 {

@@ -1,36 +1,57 @@
 -- The index over the records of a batch: what its entries say, and what one record more makes of it.
 -- Assumes nothing.
-use Prim.Native.Nat.{ℕ, zero, suc, _+_, _-_, _≤_, _<_}
+use Prim.Native.Nat.{ℕ, zero, suc, _+_, _-_, _%_, _≤_, _<_}
 use mathlib.Core.Bool.{Bool, true, false, _&&_}
 use mathlib.Core.Path.{_≡_, refl, sym, ap, _∙_}
 use mathlib.Core.Logic.{_⊎_, inl, inr}
 use mathlib.Core.List.{List, []}
+use native.Mathlib.Nat.{mod-lt}
 use native.Mathlib.Decide.{ℕ-discrete}
 use native.Mathlib.Numerals.{add-one}
 use native.Mathlib.Omega.{arith}
 use lib.Dec.{eqb, ltb}
 use lib.ListN.{set, getD, length-set}
 use lib.Seq.{getD-set-same, getD-set-other}
-use borrow.Author.Tests.{ltb-true}
+use borrow.Author.Tests.{ltb-true, eq-eqb, lt-leb}
 use Rattle.numbers.specs.Bytes.{same}
 use Rattle.digests.specs.Fnv.{fnv1a64}
 use Rattle.probing.specs.Counting.{one}
-use Rattle.probing.specs.Table.{EMPTY, FULL, Table, live, liveCount, tombstoneCount}
+use Rattle.probing.specs.Table.{Bucket, EMPTY, TOMBSTONE, FULL, Table, live, liveCount, tombstoneCount}
 use Rattle.probing.specs.Change.{update, place, placed, rebuiltTo}
-use Rattle.probing.specs.Stop.{stopsAt, stop}
+use Rattle.probing.specs.Probe as probe
+use Rattle.probing.specs.Probe.{Probed, found, absent, lastOf, countOf}
+use Rattle.probing.specs.Report.{orTombstone, Report, report}
 use Rattle.probing.proofs.Counting.{count-le}
 use Rattle.probing.proofs.Change.{by-update}
-use Rattle.probing.proofs.Keys.{clash, not-true-false, and-both, same-eq}
+use Rattle.probing.proofs.Keys.{clash, not-both, not-true-false, and-both, same-eq}
 use Rattle.probing.proofs.Place.{place-same}
-use Rattle.probing.proofs.Placed.{upTo}
+use Rattle.probing.proofs.Placed.{upTo, probe-upTo}
 use Rattle.probing.proofs.Rebuild.{over, rebuilt-over, Built, built}
-use Rattle.probing.proofs.Stop.{stop-below, stop-agree, Vacant, Held, stopped, stop-is-place}
+use Rattle.probing.proofs.Agree.{probe-agree}
+use Rattle.probing.proofs.Reading.{never-broken}
+use Rattle.probing.proofs.Report.{OnWay, turned, goes-on, reports, Vacant, Held, stopped, clear-place}
 use Rattle.header.specs.declared.shape.Layout.{Layout}
 use Rattle.batch.specs.Batch.{most-records, recordCount, recordKey, decides}
-use Rattle.batch.specs.Index.{index-size, following, entryBucket, recordTable, Indexed}
+use Rattle.batch.specs.Index.{index-size, following, entryBucket, recordTable, stopsAt, Indexed}
 use Rattle.batch.proofs.Deciding.{decides-last, last-decides, one-decides, deciding}
 use Rattle.batch.proofs.Every.{flag-up}
 use Rattle.batch.proofs.Noted.{zeros, zero-at}
+
+-- what a bucket says to a probe, by whether it ends it, where a FULL one points at a live slot below highwater
+module _ (t : Table) (k : List ℕ) (c : ℕ) (onward : Probed) where
+  passes-on : (x : Bucket) → stopsAt t k x ≡ false → ((h s : ℕ) → x ≡ FULL h s → (s < t .highwater) × (t .meta s ≡ 1)) → probe.examine t k c onward x ≡ onward
+  unfolding probe.examine
+  passes-on EMPTY e full = absurd (not-both refl e)
+  passes-on TOMBSTONE e full = refl
+  passes-on (FULL h s) e full = rw (lt-leb (t .highwater) s (full h s refl .0), e) refl
+
+  ends-at : (x : Bucket) → stopsAt t k x ≡ true → ((h s : ℕ) → x ≡ FULL h s → (s < t .highwater) × (t .meta s ≡ 1))
+      → (end : Probed) × (probe.examine t k c onward x ≡ end) × (countOf end ≡ c)
+  unfolding probe.examine
+  ends-at EMPTY e full = (absent c, refl, refl)
+  ends-at TOMBSTONE e full = absurd (not-both e refl)
+  ends-at (FULL h s) e full =
+      (found s c, rw (lt-leb (t .highwater) s (full h s refl .0), e, eq-eqb (t .meta s) 1 (full h s refl .1)) refl, refl)
 
 module _ (l : Layout) (batch : List ℕ) where
   -- the record of a record's slot
@@ -97,20 +118,57 @@ module _ (l : Layout) (batch : List ℕ) where
       abbrev before : Table
       before = upTo (over slots (rebuiltTo slots n .bucket)) n
 
-      -- the bucket where the probe for the key of record i stops
+      abbrev now : Table
+      now = recordTable l batch index
+
+      -- a FULL bucket is of one of them, which decides
+      full : (b : ℕ) → b < index-size → (h s : ℕ) → now .bucket b ≡ FULL h s → (s < now .highwater) × (now .meta s ≡ 1)
+      unfolding recordTable
+      full b below h s q =
+          let f = sound n (omega arith) .sound .full b h s below (sym (indexed .buckets b below) ∙ q) in
+          (omega (arith, f .0), f .1)
+
+      -- the probe for the key of record i, bucket by bucket: a bucket that does not end it, and one that does
+      pub probe-on : {b m p : ℕ} → b < index-size → m < index-size → OnWay now key b m p → stopsAt now key (now .bucket b) ≡ false
+          → OnWay now key ((b + 1) % index-size) (m + 1) (orTombstone now p b)
+      unfolding recordTable
+      probe-on {b} {m} below few way e =
+          goes-on now key way few (turned now key way few ∙ passes-on now key (m + 1) _ (now .bucket b) e (full b below))
+
+      pub probe-ends : {b m p : ℕ} → b < index-size → m < index-size → OnWay now key b m p → stopsAt now key (now .bucket b) ≡ true
+          → report now key .bucket ≡ b
+      unfolding recordTable
+      probe-ends {b} {m} below few way e =
+          let end = ends-at now key (m + 1) _ (now .bucket b) e (full b below) in
+          ap (λ (r : Report). r .bucket) (reports now key way (end .0) (turned now key way few ∙ end .1) (end .2))
+
+      -- the bucket where it stops
       abbrev at : ℕ
-      at = stop (recordTable l batch index) key
+      at = report now key .bucket
 
       pub at-below : at < index-size
-      unfolding recordTable
-      at-below = stop-below (recordTable l batch index) key (omega arith)
+      unfolding recordTable report
+      at-below = mod-lt _ (omega arith)
 
-      at-before : stop before key ≡ at
+      -- it ends as with the index that it should be
+      same-probe : probe.probe now key ≡ probe.probe before key
       unfolding recordTable
-      at-before = stop-agree (recordTable l batch index) (rebuiltTo slots n .bucket) (λ b h. sym (indexed .buckets b h)) (omega arith) n key
+      same-probe =
+          probe-agree (over slots (rebuiltTo slots n .bucket)) (λ b. entryBucket l batch (getD index b 0)) (slots .meta) (slots .key)
+          (λ b below. indexed .buckets b below) (λ s below. refl) (λ s below. refl) (omega arith) key
+          ∙ probe-upTo (over slots (rebuiltTo slots n .bucket)) n (omega arith) (omega arith)
+          (λ b h s below q. sound n (omega arith) .sound .full b h s below q .0) key
+
+      -- it does end
+      pub probe-unbroken : probe.probe now key ≡ probe.broken → ⊥
+      probe-unbroken e = never-broken before (sound n (omega arith) .sound) key (sym same-probe ∙ e)
+
+      at-before : report before key .bucket ≡ at
+      unfolding recordTable report
+      at-before = ap (λ (p : Probed). lastOf before key (countOf p)) (sym same-probe)
 
       -- what stands there
-      there : entryBucket l batch (getD index at 0) ≡ before .bucket (stop before key)
+      there : entryBucket l batch (getD index at 0) ≡ before .bucket (report before key .bucket)
       unfolding recordTable
       there = indexed .buckets at at-below ∙ ap (rebuiltTo slots n .bucket) (sym at-before)
 
@@ -183,7 +241,7 @@ module _ (l : Layout) (batch : List ℕ) where
           ap (λ (t : Table). place t (t .key n)) (rebuilt-over slots n)
           ∙ ap (place (over slots (rebuiltTo slots n .bucket))) slot-key
           ∙ place-same (over slots (rebuiltTo slots n .bucket)) before refl refl refl key
-          ∙ stop-is-place before (sound n (omega arith) .sound) key (sound n (omega arith) .tombstones) none
+          ∙ clear-place before (sound n (omega arith) .sound) key (sound n (omega arith) .tombstones) none
           ∙ at-before
 
       -- and stands there

@@ -1,12 +1,15 @@
 -- The index by which the code finds the records that decide: the records are the slots of a table, the last one first.
 -- Assumes nothing.
 use Prim.Native.Nat.{ℕ, zero, suc, _*_, _-_, _<_, _≤_}
+use mathlib.Core.Bool.{Bool, true, false, _&&_}
 use mathlib.Core.Path.{_≡_}
 use mathlib.Core.List.{List, []}
+use lib.Dec.{eqb}
 use lib.ListN.{length, getD}
+use Rattle.numbers.specs.Bytes.{same}
 use Rattle.digests.specs.Fnv.{fnv1a64}
 use Rattle.probing.specs.Counting.{one}
-use Rattle.probing.specs.Table.{Bucket, EMPTY, FULL, Table}
+use Rattle.probing.specs.Table.{Bucket, EMPTY, TOMBSTONE, FULL, Table}
 use Rattle.probing.specs.Change.{rebuiltTo}
 use Rattle.header.specs.declared.shape.Layout.{Layout}
 use Rattle.batch.specs.Batch.{most-records, recordCount, recordKey, decides}
@@ -45,3 +48,9 @@ pub record Entries (l : Layout) (batch index : List ℕ) : Type 0 where
 pub record Indexed (l : Layout) (batch index : List ℕ) (n : ℕ) : Type 0 where
   pub entries : Entries l batch index
   pub buckets : (b : ℕ) → b < index-size → recordTable l batch index .bucket b ≡ rebuiltTo (recordTable l batch []) n .bucket b
+
+-- whether a bucket of the index ends a probe for a key: it is EMPTY, or has the key's hash and a slot with the key
+abbrev pub stopsAt : Table → List ℕ → Bucket → Bool
+stopsAt t k EMPTY = true
+stopsAt t k TOMBSTONE = false
+stopsAt t k (FULL h s) = eqb h (t .hash k) && same (t .key s) k

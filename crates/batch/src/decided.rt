@@ -2,10 +2,10 @@
 ghost use mathlib.Core.Path.{_≡_};
 ghost use Prim.Native.Nat.{_-_, _<_, _≤_};
 ghost use Rattle.probing.specs.Counting.{one};
-ghost use Rattle.probing.specs.Stop.{stopsAt, stop};
+ghost use Rattle.probing.specs.Report.{report};
 ghost use Rattle.batch.specs.Batch.{SlotSized, most-records, recordCount, recordKey, decides};
 ghost use Rattle.batch.specs.Notes.{Noted, hashOf};
-ghost use Rattle.batch.specs.Index.{index-size, following, recordTable, Entries, Indexed};
+ghost use Rattle.batch.specs.Index.{index-size, following, recordTable, stopsAt, Entries, Indexed};
 use crate::batch::MOST_RECORDS;
 use crate::batch::record_count;
 use crate::batch::record_key;
@@ -51,13 +51,13 @@ fn stops_at(batch: &[u8], l: Layout, hashes: &[u64], index: &[u16], i: usize, b:
     same_bytes(record_key(batch, l, j), record_key(batch, l, i))
 }
 
-// The bucket where the probe for the key of record i stops.
+// The bucket where the probe for the key of record i stops, in the index of the records that follow it.
 fn stop_of(batch: &[u8], l: Layout, hashes: &[u64], index: &[u16], i: usize) -> usize
     requires { ⌜ SlotSized l ⌝ }
     requires { ⌜ i < recordCount l (now batch) ⌝ }
     requires { ⌜ Noted (hashOf l (now batch)) (recordCount l (now batch)) (now hashes) ⌝ }
-    requires { ⌜ Entries l (now batch) (now index) ⌝ }
-    ensures { λ r. ⌜ r ≡ stop (recordTable l (now (batch .entry)) (now (index .entry))) (recordKey l (now (batch .entry)) i) ⌝ }
+    requires { ⌜ Indexed l (now batch) (now index) (following l (now batch) i) ⌝ }
+    ensures { λ r. ⌜ r ≡ report (recordTable l (now (batch .entry)) (now (index .entry))) (recordKey l (now (batch .entry)) i) .bucket ⌝ }
 {
     let mut b = (hashes[i] % (INDEX_SIZE as u64)) as usize;
     let mut left = INDEX_SIZE;

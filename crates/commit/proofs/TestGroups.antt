@@ -1,6 +1,6 @@
 -- The tests of a commit, one group after the other, and what it says that none of them holds.
 -- Assumes nothing.
-use Prim.Native.Nat.{ℕ, suc, _+_, _-_, _%_, _≤_}
+use Prim.Native.Nat.{ℕ, suc, _%_, _≤_}
 use mathlib.Core.Path.{_≡_, refl, sym, ap, _∙_}
 use mathlib.Core.Bool.{Bool, true, false, cond, not, _||_}
 use mathlib.Core.List.{List}
@@ -10,16 +10,13 @@ use lib.ListN.{length}
 use borrow.Author.Tests.{ltb-false}
 use Rattle.header.specs.declared.options.Options.{Options}
 use Rattle.header.specs.declared.shape.Shape.{Shape}
-use Rattle.image.specs.Lookup.{isLive}
 use Rattle.header.specs.FirstOf.{firstOf}
 use Rattle.header.specs.HeaderTest.{test1, test2, test3, test4, test5, test6, test7, test8, test9, test10, test11, test12, headerTests, shapeOf}
-use Rattle.header.specs.Shaped.{Shaped}
 use Rattle.header.proofs.Firsts.{named, first-stops, neither}
 use Rattle.writing.specs.Write.{unless}
 use Rattle.writing.specs.State.{writingTests, cleanTest, generationTest, userTests}
 use Rattle.writing.proofs.Tests.{past}
 use Rattle.batch.specs.Batch.{most-records, recordCount, batchWrong, someMalformed}
-use Rattle.batch.specs.NewKeys.{newCount}
 use Rattle.soundness.specs.Apply.{committed}
 use Rattle.soundness.specs.Commit.{soundTests, roomTests, furtherTests, commitTests, commitOf}
 
@@ -51,17 +48,6 @@ module _ (s : Shape) (image batch : List ℕ) where
       let wrong = passed (batchWrong (s .layout) batch) 6 _ (sym e ∙ z) .0 in
       let two = neither (not (eqb (length batch % s .layout .«slot_size») 0) || ltb most-records (recordCount (s .layout) batch)) (someMalformed (s .layout) batch) wrong .0 in
       ltb-false most-records (recordCount (s .layout) batch) (neither (not (eqb (length batch % s .layout .«slot_size») 0)) _ two .1)
-
-  -- and its new keys have room
-  pub room-enough : Shaped s image → {n : ℕ} → n ≡ firstOf (roomTests s image batch) → n ≡ 0 → s .«slot_highwater» + newCount (s .layout) (isLive s image) batch ≤ s .layout .«slot_capacity»
-  unfolding roomTests firstOf
-  room-enough fit e z =
-      omega (
-        arith,
-        fit .highwater,
-        ltb-false (s .layout .«slot_capacity» - s .«slot_highwater») (newCount (s .layout) (isLive s image) batch)
-            (passed (ltb (s .layout .«slot_capacity» - s .«slot_highwater») (newCount (s .layout) (isLive s image) batch)) 4 _ (sym e ∙ z) .0),
-      )
 
 module _ (o : Options) (image batch : List ℕ) where
   user-named : T (named (userTests o image))

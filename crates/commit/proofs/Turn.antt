@@ -8,8 +8,7 @@ use borrow.Author.Tests.{eq-eqb, ne-eqb}
 use Rattle.header.specs.declared.shape.Shape.{Shape}
 use Rattle.image.specs.declared.probe.Probe.{Probe}
 use Rattle.image.specs.Lookup.{probeOf, isFound, isLive}
-use Rattle.image.specs.ProbeEnd.{told}
-use Rattle.image.proofs.Looked.{heard, told-end}
+use Rattle.image.proofs.Looked.{heard}
 use Rattle.batch.specs.Batch.{recordAt, metaIn, recordKey, decides}
 use Rattle.batch.specs.NewKeys.{isNew}
 use Rattle.batch.specs.Notes.{no-turn, live-turn, new-turn, turnOf}
@@ -28,9 +27,9 @@ module _ (s : Shape) (image batch : List ℕ) (i : ℕ) where
   -- else the probe says it
   pub by-probe :
       decides (s .layout) batch i ≡ true → metaIn (recordAt (s .layout) batch i) ≡ 1 → (key : List ℕ) → key ≡ recordKey (s .layout) batch i → (r : Probe)
-      → r ≡ told (probeOf s image key) → cond (isFound (heard r)) live-turn new-turn ≡ turnOf (s .layout) (isLive s image) batch i
+      → probeOf s image key ≡ heard r → cond (isFound (heard r)) live-turn new-turn ≡ turnOf (s .layout) (isLive s image) batch i
   unfolding turnOf isNew isLive
-  by-probe e put key k r t = rw (e, eq-eqb _ 1 put, ← k, told-end r (probeOf s image key) t) (either-turn (isFound (heard r)))
+  by-probe e put key k r t = rw (e, eq-eqb _ 1 put, ← k, t) (either-turn (isFound (heard r)))
     where
       either-turn : (live : Bool) → cond live live-turn new-turn ≡ cond (not live) new-turn live-turn
       either-turn true = refl

@@ -32,7 +32,7 @@ fn turn_of(image: &[u8], s: Shape, batch: &[u8], hashes: &[u64], flags: &[u8], i
     if record_meta(batch, s.layout, i) != 1 {
         return LIVE_TURN;
     }
-    let probed = probe_hashed(image, s, record_key(batch, s.layout, i), hashes[i]);
+    let probed = probe_hashed(image, s, record_key(batch, s.layout, i), hashes[i]).end;
     match probed {
         Probe::Found { slot, buckets } => LIVE_TURN,
         Probe::Absent { buckets } => NEW_TURN,

@@ -4,6 +4,7 @@ pub mod Demand3
 pub mod Examples
 pub mod ExactLength
 pub mod ForeignShapes
+pub mod OneProbe
 pub mod ReadMap
 pub mod WholeLength
 pub mod Owing

@@ -8,6 +8,7 @@ pub mod Shows
 pub mod Before
 pub mod ExactLength
 pub mod ForeignShapes
+pub mod OneProbe
 pub mod WholeLength
 pub mod Calls
 pub mod Exports

@@ -9,6 +9,7 @@ use lib.Dec.{eqb}
 use lib.ListN.{length}
 use borrow.Author.Tests.{eq-eqb, ne-eqb}
 use Rattle.probing.specs.Probe.{Probed, found, absent, broken}
+use Rattle.probing.specs.Report.{report}
 use Rattle.probing.specs.Sound.{Sound}
 use Rattle.probing.proofs.Keys.{not-both}
 use Rattle.probing.proofs.Reading.{never-broken}
@@ -21,10 +22,11 @@ use Rattle.header.specs.HeaderTest.{judged}
 use Rattle.header.proofs.Fit.{fit-shape}
 use Rattle.image.specs.declared.lookup.Lookup.{Lookup}
 use Rattle.image.specs.declared.probe.Probe.{Probe}
+use Rattle.image.specs.declared.probe.Report.{Report}
 use Rattle.image.specs.declared.probe.Probe.the-variants.{Found, Absent, Broken}
 use Rattle.image.specs.Table.{tableOf, indexOf}
 use Rattle.image.specs.Lookup.{probeOf, isFound, isLive, nothing, lookupBy, lookupIn, lookupOf, indexPart}
-use Rattle.image.specs.ProbeEnd.{told}
+use Rattle.image.specs.Told.{told, reportOf}
 use Rattle.image.proofs.Judging.{after-fit, after-refused}
 
 -- what the code tells of a probe's end is that end
@@ -40,6 +42,11 @@ heard-told broken = refl
 
 pub told-end : (r : Probe) (p : Probed) → r ≡ told p → p ≡ heard r
 told-end r p e = heard-told p ∙ ap heard (sym e)
+
+-- what the probe ended in, by its report
+pub reported-end : (s : Shape) (image key : List ℕ) (r : Report) → r ≡ reportOf s image key → (end : Probe) → r .end ≡ end → probeOf s image key ≡ heard end
+unfolding reportOf report probeOf
+reported-end s image key r e end is = told-end end _ (sym is ∙ ap (λ (x : Report). x .end) e)
 
 module _ (s : Shape) (image key : List ℕ) where
   -- a slot that the probe found is below highwater

@@ -21,7 +21,7 @@ use Rattle.image.specs.declared.check.BucketTally.{BucketTally}
 use Rattle.image.specs.declared.check.SlotTally.{SlotTally}
 use Rattle.image.specs.declared.probe.Probe.the-variants.{Found, Absent, Broken}
 use Rattle.image.specs.Table.{metaOf, keyOf, tableOf}
-use Rattle.image.specs.ProbeEnd.{told}
+use Rattle.image.specs.Told.{told}
 use Rattle.image.specs.Tally.{bucketsTo, slotsTo}
 use Rattle.image.proofs.Looked.{told-end}
 

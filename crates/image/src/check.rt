@@ -128,7 +128,7 @@ fn with_slot(image: &[u8], s: Shape, n: usize, tally: SlotTally) -> SlotTally
         };
     }
     let live = tally.live + 1;
-    let p = probe_for(image, s, key_of(image, s.layout, n));
+    let p = probe_for(image, s, key_of(image, s.layout, n)).end;
     match p {
         Probe::Found { slot, buckets } => SlotTally {
             metas: tally.metas,

@@ -43,7 +43,7 @@ fn lookup_in(image: &[u8], s: Shape, key: &[u8]) -> Lookup
     if key.len() != s.layout.key_size {
         return refused(INVALID_INPUT);
     }
-    let probed = probe_for(image, s, key);
+    let probed = probe_for(image, s, key).end;
     match probed {
         Probe::Found { slot, buckets } => {
             let revision = revision_of(image, s.layout, slot);

@@ -1,14 +1,14 @@
 // The probe: a key's way through the hash index.
 ghost use mathlib.Core.Path.{_≡_};
-ghost use Prim.Native.Nat.{ℕ, _<_};
+ghost use mathlib.Core.Bool.{cond};
+ghost use Prim.Native.Nat.{_<_};
+ghost use lib.Dec.{eqb};
 ghost use Rattle.digests.specs.Fnv.{fnv1a64};
 ghost use Rattle.probing.specs.Table.{FULL};
-ghost use Rattle.probing.specs.Probe.{Probed, examine};
 ghost use Rattle.header.specs.Shaped.{Shaped};
-ghost use Rattle.image.specs.Table.{bucketOf, tableOf};
-ghost use Rattle.image.specs.Step.{ends};
-ghost use Rattle.image.specs.Lookup.{probeOf};
-ghost use Rattle.image.specs.ProbeEnd.{told};
+ghost use Rattle.image.specs.Table.{bucketOf};
+ghost use Rattle.image.specs.Step.{Says};
+ghost use Rattle.image.specs.Told.{toldBroken, reportOf};
 use crate::table::TOMBSTONE;
 use crate::table::hash64_of;
 use crate::table::key_of;
@@ -26,11 +26,21 @@ pub enum Probe {
     Broken,
 }
 
-// What one bucket says to a probe: the key's slot is this, there is no such key, go on, or the table is broken.
+// What a probe reports: what it ended in; the bucket where it stopped; and the first TOMBSTONE that it passed, where B, which is
+// no bucket, stands for none. Of a broken table these two are nobody's.
+pub struct Report {
+    pub end: Probe,
+    pub bucket: usize,
+    pub tombstone: usize,
+}
+
+// What one bucket says to a probe: the key's slot is this, there is no such key, go on, go on past a TOMBSTONE, or the table is
+// broken.
 pub enum Step {
     Found(usize),
     Absent,
     Onward,
+    Tombstone,
     Broken,
 }
 
@@ -38,7 +48,7 @@ pub enum Step {
 fn examine_full(image: &[u8], s: Shape, key: &[u8], hash: u64, hash64: u64, n: usize) -> Step
     requires { ⌜ Shaped s (now image) ⌝ }
     requires { ⌜ hash ≡ fnv1a64 (now key) ⌝ }
-    ensures { λ r. ⌜ ((count : ℕ) (onward : Probed) → ends r count onward ≡ examine (tableOf s (now (image .entry))) (now (key .entry)) count onward (FULL hash64 n)) ⌝ }
+    ensures { λ r. ⌜ Says s (now (image .entry)) (now (key .entry)) (FULL hash64 n) r ⌝ }
 {
     if n >= s.slot_highwater {
         return Step::Broken;
@@ -61,48 +71,83 @@ fn examine(image: &[u8], s: Shape, key: &[u8], hash: u64, b: usize) -> Step
     requires { ⌜ Shaped s (now image) ⌝ }
     requires { ⌜ b < s .layout .«bucket_count» ⌝ }
     requires { ⌜ hash ≡ fnv1a64 (now key) ⌝ }
-    ensures { λ r. ⌜ ((count : ℕ) (onward : Probed) → ends r count onward ≡ examine (tableOf s (now (image .entry))) (now (key .entry)) count onward (bucketOf (s .layout) (now (image .entry)) b)) ⌝ }
+    ensures { λ r. ⌜ Says s (now (image .entry)) (now (key .entry)) (bucketOf (s .layout) (now (image .entry)) b) r ⌝ }
 {
     let slot_plus1 = slot_plus1_of(image, s.layout, b);
     if slot_plus1 == 0 {
         return Step::Absent;
     }
     if slot_plus1 == TOMBSTONE {
-        return Step::Onward;
+        return Step::Tombstone;
     }
     let hash64 = hash64_of(image, s.layout, b);
     examine_full(image, s, key, hash, hash64, (slot_plus1 - 1) as usize)
 }
 
+// The first TOMBSTONE passed, with b passed too, which is one: b if there was none before.
+fn first_of(tombstone: usize, b: usize, count: usize) -> usize
+    ensures { λ r. ⌜ r ≡ cond (eqb tombstone count) b tombstone ⌝ }
+{
+    if tombstone == count {
+        return b;
+    }
+    tombstone
+}
+
+// The report of a broken table.
+fn broken(home: usize, count: usize) -> Report
+    ensures { λ r. ⌜ r ≡ toldBroken home count ⌝ }
+{
+    Report {
+        end: Probe::Broken,
+        bucket: home,
+        tombstone: count,
+    }
+}
+
 // The probe of a key with this hash: from its home bucket on, one bucket after the other, at most all of them.
-pub fn probe_hashed(image: &[u8], s: Shape, key: &[u8], hash: u64) -> Probe
+pub fn probe_hashed(image: &[u8], s: Shape, key: &[u8], hash: u64) -> Report
     requires { ⌜ Shaped s (now image) ⌝ }
     requires { ⌜ hash ≡ fnv1a64 (now key) ⌝ }
-    ensures { λ r. ⌜ r ≡ told (probeOf s (now (image .entry)) (now (key .entry))) ⌝ }
+    ensures { λ r. ⌜ r ≡ reportOf s (now (image .entry)) (now (key .entry)) ⌝ }
 {
     let count = s.layout.bucket_count;
-    let mut b = (hash % (count as u64)) as usize;
+    let home = (hash % (count as u64)) as usize;
+    let mut b = home;
     let mut examined = 0;
+    let mut tombstone = count;
     while examined < count {
         let step = examine(image, s, key, hash, b);
         examined += 1;
         match step {
-            Step::Found(n) => return Probe::Found {
-                slot: n,
-                buckets: examined,
+            Step::Found(n) => return Report {
+                end: Probe::Found {
+                    slot: n,
+                    buckets: examined,
+                },
+                bucket: b,
+                tombstone,
             },
-            Step::Absent => return Probe::Absent { buckets: examined },
-            Step::Broken => return Probe::Broken,
+            Step::Absent => return Report {
+                end: Probe::Absent { buckets: examined },
+                bucket: b,
+                tombstone,
+            },
+            Step::Broken => return broken(home, count),
+            Step::Tombstone => {
+                tombstone = first_of(tombstone, b, count);
+                b = next_bucket(b, count);
+            }
             Step::Onward => b = next_bucket(b, count),
         }
     }
-    Probe::Broken
+    broken(home, count)
 }
 
 // The probe of a key.
-pub fn probe_for(image: &[u8], s: Shape, key: &[u8]) -> Probe
+pub fn probe_for(image: &[u8], s: Shape, key: &[u8]) -> Report
     requires { ⌜ Shaped s (now image) ⌝ }
-    ensures { λ r. ⌜ r ≡ told (probeOf s (now (image .entry)) (now (key .entry))) ⌝ }
+    ensures { λ r. ⌜ r ≡ reportOf s (now (image .entry)) (now (key .entry)) ⌝ }
 {
     probe_hashed(image, s, key, fnv1a64_of(key))
 }

@@ -1,7 +1,7 @@
 -- What the records do to live keys, on the map that lookup reads: a key that the image has gets what its deciding record
 -- says, and a key that it has not still has nothing.
 -- Assumes nothing.
-use Prim.Native.Nat.{ℕ, zero, suc, _-_, _+_, _%_, _≤_, _<_}
+use Prim.Native.Nat.{ℕ, zero, suc, _≤_, _<_}
 use mathlib.Core.Bool.{Bool, true, false, cond}
 use mathlib.Core.Path.{_≡_, refl, sym, ap, subst, _∙_}
 use mathlib.Core.Logic.{_⊎_, inl, inr}
@@ -11,8 +11,7 @@ use native.Mathlib.Nat.{eq-or-lt-of-le, mod-lt, le-refl}
 use native.Mathlib.Omega.{arith}
 use lib.Dec.{eqb}
 use lib.ListN.{length}
-use Rattle.digests.specs.Fnv.{fnv1a64}
-use Rattle.probing.specs.Probe.{Probed, found, absent, broken}
+use Rattle.probing.specs.Probe.{Probed, found, absent, broken, lastOf}
 use Rattle.probing.specs.Sound.{Sound}
 use Rattle.probing.proofs.Keys.{either, not-both}
 use Rattle.header.specs.declared.shape.Shape.{Shape}
@@ -45,14 +44,14 @@ record Acts (s : Shape) (image key : List ℕ) (x : Option Entry) (image′ : Li
 module _ (s : Shape) (image : List ℕ) (fit : Shaped s image) (sound : Sound (tableOf s image)) (r : List ℕ) (whole : length r ≡ s .layout .«slot_size») where
   -- by what the probe for the record's key ends in
   on-live : (p : Probed) → probeOf s image (keyIn (s .layout) r) ≡ p → Sound (tableOf s (onLive s image r p)) → Acts s image (keyIn (s .layout) r) (said s r) (onLive s image r p)
-  unfolding mapOf
+  unfolding mapOf tableOf
   on-live (found n count) e sound′ = by (eqb (metaIn r) 1) sound′
     where
       has : Has s image (keyIn (s .layout) r) n
       has = found-has s image sound (keyIn (s .layout) r) n count e
 
       b : ℕ
-      b = (fnv1a64 (keyIn (s .layout) r) % s .layout .«bucket_count» + (count - 1)) % s .layout .«bucket_count»
+      b = lastOf (tableOf s image) (keyIn (s .layout) r) count
 
       bucket : b < s .layout .«bucket_count»
       bucket = mod-lt _ (omega (arith, fit .laid .room))

@@ -2,3 +2,4 @@ pub mod MostRecords
 pub mod StoriesComputed
 pub mod Story
 pub mod Pins
+pub mod Crowded

@@ -4,3 +4,4 @@ pub mod OrderedStory
 pub mod PartnerStory
 pub mod Pins
 pub mod Refusals
+pub mod Crowded

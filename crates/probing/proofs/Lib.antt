@@ -3,10 +3,10 @@ pub mod Order
 pub mod Round
 pub mod Counting
 pub mod Reading
-pub mod Stop
 pub mod Checks
 pub mod Change
 pub mod Place
+pub mod Report
 pub mod Placed
 pub mod Delete
 pub mod Insert

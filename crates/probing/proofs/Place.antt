@@ -2,7 +2,7 @@
 -- Assumes nothing.
 use Prim.Native.Nat.{ℕ, zero, suc, _+_, _%_, _≤_, _<_}
 use mathlib.Core.Bool.{true, false}
-use mathlib.Core.Path.{_≡_, refl, ap, ap₂, _∙_}
+use mathlib.Core.Path.{_≡_, refl, sym, ap, ap₂, _∙_}
 use mathlib.Core.List.{List}
 use native.Mathlib.Nat.{mod-lt}
 use lib.Arith.{lt-of-le-ne}
@@ -50,6 +50,16 @@ module _ (t : Table) (h : ℕ) where
       go EMPTY q on = here (ap isFull q)
       go TOMBSTONE q on = here (ap isFull q)
       go (FULL x s) q on = on (ap isFull q)
+
+-- there is one such bucket
+pub first-free-same : (t : Table) (h : ℕ) {p q : ℕ} → FirstFree t h p → FirstFree t h q → p ≡ q
+first-free-same t h {p} {q} f g = f .there ∙ ap (λ (i : ℕ). (h + i) % t .B) (same (f .distance) (g .distance) (one-way f g) (one-way g f)) ∙ sym (g .there)
+  where
+    one-way : {p q : ℕ} (f : FirstFree t h p) (g : FirstFree t h q) → f .distance < g .distance → ⊥
+    one-way f g less = not-both (g .way (f .distance) less) (sym (ap (λ (b : ℕ). isFull (t .bucket b)) (f .there)) ∙ f .free)
+
+    same : (i j : ℕ) → (i < j → ⊥) → (j < i → ⊥) → i ≡ j
+    same i j not-less not-more = omega (arith, not-less, not-more)
 
 module _ (t : Table) (k : List ℕ) where
   -- where some bucket is not FULL, the place of a key is the first such bucket from its home on

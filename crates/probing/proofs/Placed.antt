@@ -1,12 +1,15 @@
 -- A slot more in the index: a sound index over the slots below n gets slot n, by its key's place.
 -- Assumes nothing.
-use Prim.Native.Nat.{ℕ, _+_, _<_}
+use Prim.Native.Nat.{ℕ, zero, suc, _+_, _≤_, _<_}
 use mathlib.Core.Bool.{false}
 use mathlib.Core.Path.{_≡_, refl, sym, ap, _∙_}
+use mathlib.Core.List.{List}
+use native.Mathlib.Nat.{mod-lt}
 use native.Mathlib.Omega.{arith}
+use borrow.Author.Tests.{lt-leb}
 use Rattle.probing.specs.Counting.{one}
-use Rattle.probing.specs.Table.{EMPTY, FULL, Table, isTombstone, isFull, fullCount, tombstoneCount}
-use Rattle.probing.specs.Probe.{home}
+use Rattle.probing.specs.Table.{Bucket, EMPTY, TOMBSTONE, FULL, Table, isTombstone, isFull, fullCount, tombstoneCount}
+use Rattle.probing.specs.Probe.{Probed, home, next, examine, probeFrom, probe}
 use Rattle.probing.specs.Sound.{Reached, Sound}
 use Rattle.probing.specs.Change.{withBucket, place, placed}
 use Rattle.probing.proofs.Counting.{one-more}
@@ -18,6 +21,25 @@ use Rattle.probing.proofs.Place.{FirstFree, place-first, place-below}
 -- the table with its slots below n alone
 abbrev pub upTo : Table → ℕ → Table
 upTo t n = record { B = t .B; highwater = n; bucket = t .bucket; meta = t .meta; key = t .key; hash = t .hash }
+
+-- where the index holds slots below n alone, a probe ends as in the table with those alone
+module _ (t : Table) (n : ℕ) (fewer : n ≤ t .highwater) (some : 0 < t .B) (held : (b h s : ℕ) → b < t .B → t .bucket b ≡ FULL h s → s < n) where
+  examine-upTo : (k : List ℕ) (c : ℕ) (onward : Probed) (x : Bucket) → ((h s : ℕ) → x ≡ FULL h s → s < n) → examine t k c onward x ≡ examine (upTo t n) k c onward x
+  unfolding examine
+  examine-upTo k c onward EMPTY inside = refl
+  examine-upTo k c onward TOMBSTONE inside = refl
+  examine-upTo k c onward (FULL h s) inside = let l = inside h s refl in rw (lt-leb (t .highwater) s (omega arith), lt-leb n s l) refl
+
+  probeFrom-upTo : (k : List ℕ) (left b passed : ℕ) → b < t .B → probeFrom t k left b passed ≡ probeFrom (upTo t n) k left b passed
+  unfolding probeFrom
+  probeFrom-upTo k zero b passed l = refl
+  probeFrom-upTo k (suc left) b passed l =
+      ap (λ (onward : Probed). examine t k (passed + 1) onward (t .bucket b)) (probeFrom-upTo k left (next t b) (passed + 1) (mod-lt _ some))
+      ∙ examine-upTo k (passed + 1) _ (t .bucket b) (λ h s. held b h s l)
+
+  pub probe-upTo : (k : List ℕ) → probe t k ≡ probe (upTo t n) k
+  unfolding probe
+  probe-upTo k = probeFrom-upTo k (t .B) (home t k) 0 (mod-lt _ some)
 
 -- the table with its slots up to n, and slot n in bucket p
 abbrev filled : Table → ℕ → ℕ → Table

@@ -9,12 +9,15 @@ use native.Mathlib.Omega.{arith}
 use borrow.Author.Tests.{eqb-true, eqb-false}
 use Rattle.probing.specs.Counting.{sumTo, one, countTo}
 use Rattle.probing.specs.Table.{Bucket, EMPTY, FULL, Table, live, liveCount, fullCount, tombstoneCount}
+use Rattle.probing.specs.Probe.{probe}
+use Rattle.probing.specs.Report.{Missing}
 use Rattle.probing.specs.Check.{metasRight, neverFall}
 use Rattle.probing.specs.Sound.{Sound}
 use Rattle.probing.specs.Change.{placed, rebuiltTo, rebuilt}
 use Rattle.probing.proofs.Counting.{one-more, count-none}
 use Rattle.probing.proofs.Change.{count-more}
-use Rattle.probing.proofs.Placed.{upTo, placing}
+use Rattle.probing.proofs.Placed.{upTo, probe-upTo, placing}
+use Rattle.probing.proofs.Reading.{probe-none}
 
 -- What rebuilding the index makes of a table.
 pub record Rebuilt (t t′ : Table) : Type 0 where
@@ -132,6 +135,14 @@ module _ (t : Table) (room : liveCount t < t .B)
           subst (λ (u : Table). Built t (n + 1) (placed u n .bucket)) (sym (rebuilt-over t n))
           (built-live t n (rebuiltTo t n .bucket) alive (unlike n l (eqb-true _ _ alive)) (omega arith) before)
       go false dead before = built-dead t n _ dead before
+
+  -- before its turn, a live slot's key is not in the index
+  pub unbuilt : (n : ℕ) → n < t .highwater → t .meta n ≡ 1 → Missing (rebuiltTo t n) (t .key n)
+  unbuilt n l alive =
+      let sound = built n (omega arith) .sound in
+      let none = probe-none _ sound (t .key n) (unlike n l alive) in
+      let inside = probe-upTo (over t (rebuiltTo t n .bucket)) n (omega arith) (omega arith) (λ b h s below q. sound .full b h s below q .0) (t .key n) in
+      (none .0, ap (λ (u : Table). probe u (t .key n)) (rebuilt-over t n) ∙ inside ∙ none .1)
 
 -- The index is rebuilt, where live slots have different keys and are fewer than the buckets.
 pub rebuilding : (t : Table) → liveCount t < t .B

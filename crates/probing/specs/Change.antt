@@ -1,11 +1,11 @@
 -- What a commit does to a table. Rewriting a slot's revision and index changes nothing here.
 -- Assumes nothing.
-use Prim.Native.Nat.{ℕ, zero, suc, _+_, _-_, _%_}
+use Prim.Native.Nat.{ℕ, zero, suc, _+_}
 use mathlib.Core.Bool.{cond}
 use mathlib.Core.List.{List}
 use lib.Dec.{eqb}
 use Rattle.probing.specs.Table.{Bucket, EMPTY, TOMBSTONE, FULL, Table, live}
-use Rattle.probing.specs.Probe.{Probed, found, absent, broken, home, next, probe}
+use Rattle.probing.specs.Probe.{Probed, found, absent, broken, home, next, lastOf, probe}
 
 -- a function with one value changed
 unfoldable pub update : {A : Type 0} → (ℕ → A) → ℕ → A → ℕ → A
@@ -29,7 +29,7 @@ deletedAt t k (found s n) =
     record {
       B = t .B;
       highwater = t .highwater;
-      bucket = update (t .bucket) ((home t k + (n - 1)) % t .B) TOMBSTONE;
+      bucket = update (t .bucket) (lastOf t k n) TOMBSTONE;
       meta = update (t .meta) s 0;
       key = t .key;
       hash = t .hash;

@@ -1,7 +1,7 @@
 pub mod Counting
 pub mod Table
 pub mod Probe
-pub mod Stop
+pub mod Report
 pub mod Check
 pub mod Sound
 pub mod Change

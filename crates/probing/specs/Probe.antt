@@ -1,6 +1,6 @@
 -- The probe rule, as the lookup paragraph has it.
 -- Assumes nothing.
-use Prim.Native.Nat.{ℕ, zero, suc, _+_, _%_}
+use Prim.Native.Nat.{ℕ, zero, suc, _+_, _-_, _%_}
 use mathlib.Core.Bool.{Bool, false, cond, _&&_}
 use mathlib.Core.List.{List}
 use lib.Dec.{eqb, leb}
@@ -14,6 +14,10 @@ home t k = t .hash k % t .B
 -- "a probe goes on by one, round the end"
 abbrev pub next : Table → ℕ → ℕ
 next t b = (b + 1) % t .B
+
+-- the last of n buckets that the probe for a key examines
+abbrev pub lastOf : Table → List ℕ → ℕ → ℕ
+lastOf t k n = (home t k + (n - 1)) % t .B
 
 -- What a probe ends in: the key's slot, or no such key, each with the number of buckets examined; or a broken table.
 pub data Probed : Type 0 where

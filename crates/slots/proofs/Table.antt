@@ -8,6 +8,5 @@ pub mod Removed
 pub mod Indexed
 pub mod Appended
 pub mod Rebuilt
-pub mod Place
 pub mod Counted
 pub mod Lent

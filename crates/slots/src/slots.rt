@@ -1,12 +1,13 @@
 // The writes that a commit is made of: slots rewritten, removed and appended, and the index over them.
 ghost use mathlib.Core.Path.{_≡_};
 ghost use mathlib.Core.Bool.{cond};
-ghost use Prim.Native.Nat.{_+_, _%_, _^_, _≤_, _<_};
+ghost use Prim.Native.Nat.{_+_, _^_, _≤_, _<_};
 ghost use lib.Dec.{eqb};
 ghost use lib.ListN.{length};
 ghost use Rattle.numbers.specs.Bytes.{part};
 ghost use Rattle.digests.specs.Fnv.{fnv1a64};
-ghost use Rattle.probing.specs.Change.{placeFrom};
+ghost use Rattle.probing.specs.Report.{Missing, freeBy};
+ghost use Rattle.probing.specs.Sound.{Sound};
 ghost use Rattle.header.specs.Fields.{value, generation};
 ghost use Rattle.header.specs.Shaped.{LaidOut, Shaped};
 ghost use Rattle.image.specs.Table.{metaOf, keyOf, tableOf};
@@ -18,13 +19,13 @@ use header::shape::Layout;
 use header::shape::Shape;
 use header::sizes::align8;
 use header::state::GENERATION_STEP;
+use image::probe::Report;
+use image::probe::probe_hashed;
 use image::table::TOMBSTONE;
 use image::table::bucket_at;
 use image::table::key_of;
 use image::table::meta_of;
-use image::table::next_bucket;
 use image::table::slot_at;
-use image::table::slot_plus1_of;
 use numbers::parts::clear;
 use numbers::parts::copy_to;
 use numbers::words::put_u64;
@@ -57,47 +58,37 @@ pub fn remove(image: &mut [u8], l: Layout, n: usize, b: usize)
     put_u64(image, bucket, TOMBSTONE);
 }
 
-// The bucket that a key with this hash takes: the first one from its home on that is not FULL.
-fn place_of(image: &[u8], s: Shape, hash: u64) -> usize
-    requires { ⌜ Shaped s (now image) ⌝ }
-    ensures { λ r. ⌜ r ≡ placeFrom (tableOf s (now (image .entry))) (s .layout .«bucket_count») (hash % s .layout .«bucket_count») ⌝ }
+// The bucket that a report leaves for a key that is not there: the first TOMBSTONE passed, else the EMPTY where it stopped.
+fn free_bucket(l: Layout, report: Report) -> usize
+    ensures { λ r. ⌜ r ≡ freeBy (l .«bucket_count») (report .tombstone) (report .bucket) ⌝ }
 {
-    let count = s.layout.bucket_count;
-    let mut b = (hash % (count as u64)) as usize;
-    let mut left = count;
-    while left > 0 {
-        let slot_plus1 = slot_plus1_of(image, s.layout, b);
-        if slot_plus1 == 0 {
-            return b;
-        }
-        if slot_plus1 == TOMBSTONE {
-            return b;
-        }
-        b = next_bucket(b, count);
-        left -= 1;
+    if report.tombstone == l.bucket_count {
+        return report.bucket;
     }
-    b
+    report.tombstone
 }
 
-// Puts slot n into the index by its key, which has this hash.
+// Puts slot n into the index by its key, which has this hash and is not there yet.
 fn index_slot(image: &mut [u8], s: Shape, n: usize, hash: u64)
     requires { ⌜ Shaped s (now image) ⌝ }
     requires { ⌜ n < s .layout .«slot_capacity» ⌝ }
     requires { ⌜ hash ≡ fnv1a64 (keyOf (s .layout) (now image) n) ⌝ }
+    requires { ⌜ Missing (tableOf s (now image)) (keyOf (s .layout) (now image) n) ⌝ }
     ensures { λ r. ⌜ now (image .exit) ≡ indexed s (now (image .entry)) n ⌝ }
 {
-    let b = place_of(image, s, hash);
-    let at = bucket_at(s.layout, b);
+    let report = probe_hashed(image, s, key_of(image, s.layout, n), hash);
+    let at = bucket_at(s.layout, free_bucket(s.layout, report));
     put_u64(image, at, hash);
     put_u64(image, at + 8, (n as u64) + 1);
 }
 
-// Makes a record, whose key has this hash, the next slot, and puts that slot into the index.
+// Makes a record, whose key has this hash and is not there, the next slot, and puts that slot into the index.
 pub fn append(image: &mut [u8], s: Shape, record: &[u8], hash: u64)
     requires { ⌜ Shaped s (now image) ⌝ }
     requires { ⌜ s .«slot_highwater» < s .layout .«slot_capacity» ⌝ }
     requires { ⌜ length (now «record») ≡ s .layout .«slot_size» ⌝ }
     requires { ⌜ hash ≡ fnv1a64 (part (now «record») 8 (s .layout .«key_size»)) ⌝ }
+    requires { ⌜ Missing (tableOf s (now image)) (part (now «record») 8 (s .layout .«key_size»)) ⌝ }
     ensures { λ r. ⌜ now (image .exit) ≡ appended s (now (image .entry)) (now («record» .entry)) ⌝ }
 {
     let n = s.slot_highwater;
@@ -106,10 +97,11 @@ pub fn append(image: &mut [u8], s: Shape, record: &[u8], hash: u64)
     index_slot(image, s, n, hash);
 }
 
-// Puts slot n into the index if it is live.
+// Puts slot n into the index if it is live. Its key is not there yet.
 fn index_live(image: &mut [u8], s: Shape, n: usize)
     requires { ⌜ Shaped s (now image) ⌝ }
     requires { ⌜ n < s .layout .«slot_capacity» ⌝ }
+    requires { ⌜ (metaOf (s .layout) (now image) n ≡ 1 → Missing (tableOf s (now image)) (keyOf (s .layout) (now image) n)) ⌝ }
     ensures { λ r. ⌜ now (image .exit) ≡ cond (eqb (metaOf (s .layout) (now (image .entry)) n) 1) (indexed s (now (image .entry)) n) (now (image .entry)) ⌝ }
 {
     if meta_of(image, s.layout, n) == 1 {
@@ -121,6 +113,7 @@ fn index_live(image: &mut [u8], s: Shape, n: usize)
 // Makes all buckets zero and puts the live slots into the index, in slot order.
 pub fn rebuild(image: &mut [u8], s: Shape)
     requires { ⌜ Shaped s (now image) ⌝ }
+    requires { ⌜ Sound (tableOf s (now image)) ⌝ }
     ensures { λ r. ⌜ now (image .exit) ≡ rebuilt s (now (image .entry)) ⌝ }
 {
     let count = s.slot_highwater;

@@ -20,7 +20,6 @@ use Rattle.header.specs.Shaped.{Shaped}
 use Rattle.header.proofs.Firsts.{first-none, fails}
 use Rattle.header.proofs.Fit.{judged-fit, fit-shaped}
 use Rattle.header.proofs.PassedTests.{length-passed, role-passed}
-use Rattle.image.specs.Table.{tableOf}
 use Rattle.image.specs.Check.{passes}
 use Rattle.writing.specs.State.{writingTests, cleanTest, generationTest, userTests}
 use Rattle.writing.proofs.Bytes.{Bytes, value-bound}
@@ -29,8 +28,7 @@ use Rattle.writing.proofs.Tests.{Holds, even-passed, state-passed, header-holds
 use Rattle.batch.specs.Batch.{batchWrong}
 use Rattle.batch.specs.NewKeys.{newCount}
 use Rattle.soundness.specs.Commit.{fallsBehind, furtherTests, soundTests, roomTests, commitTests}
-use Rattle.soundness.proofs.Formed.{Formed, passes-formed}
-use Rattle.soundness.proofs.Grown.{Ready}
+use Rattle.soundness.proofs.Grown.{Ready, may-commit}
 
 pub record Accepted (o : Options) (image batch : List ℕ) : Type 0 where
   pub header : headerTest o image ≡ 0
@@ -41,6 +39,30 @@ pub record Accepted (o : Options) (image batch : List ℕ) : Type 0 where
   pub right : batchWrong (shapeOf image .layout) batch ≡ false
   pub passed : passes (shapeOf image) image ≡ true
   pub ready : Ready (shapeOf image) image batch
+
+-- What it says that none of the commit's own tests holds.
+pub record Further (s : Shape) (image batch : List ℕ) : Type 0 where
+  pub right : batchWrong (s .layout) batch ≡ false
+  pub passed : passes s image ≡ true
+  pub room : newCount (s .layout) (isLive s image) batch ≤ s .layout .«slot_capacity» - s .«slot_highwater»
+  pub ahead : fallsBehind s image batch ≡ false
+
+pub further-facts : (s : Shape) (image batch : List ℕ) → firstOf (furtherTests s image batch) ≡ 0 → Further s image batch
+unfolding furtherTests soundTests roomTests
+further-facts s image batch none =
+    let wrong : Bool = batchWrong (s .layout) batch in
+    let fails-check : Bool = not (passes s image) in
+    let beyond : Bool = ltb (s .layout .«slot_capacity» - s .«slot_highwater») (newCount (s .layout) (isLive s image) batch) in
+    let behind : Bool = fallsBehind s image batch in
+    let p₁ = first-none ((wrong, invalid-input) ∷ []) _ tt none in
+    let p₂ = first-none ((fails-check, needs-rebuild) ∷ []) _ tt (p₁ .1) in
+    let p₃ = first-none ((beyond, full) ∷ []) ((behind, out-of-order) ∷ []) tt (p₂ .1) in
+    record {
+      right = fails wrong 6 (p₁ .0);
+      passed = not-false (passes s image) (fails fails-check 0 (p₂ .0));
+      room = ltb-false _ _ (fails beyond 4 (p₃ .0));
+      ahead = fails behind 5 (p₃ .1);
+    }
 
 module _ (o : Options) (image batch : List ℕ) (accepted : firstOf (commitTests o image batch) ≡ 0) where
   abbrev s : Shape
@@ -67,37 +89,14 @@ module _ (o : Options) (image batch : List ℕ) (accepted : firstOf (commitTests
   unfolding cleanTest
   not-clean = eqb-false _ _ (fails (eqb (value image F.state) CLEAN) 6 (change-clean o image (both .0)))
 
-  -- the commit's own tests
-  record Further : Type 0 where
-    right : batchWrong (s .layout) batch ≡ false
-    passed : passes s image ≡ true
-    room : newCount (s .layout) (isLive s image) batch ≤ s .layout .«slot_capacity» - s .«slot_highwater»
-    ahead : fallsBehind s image batch ≡ false
-
-  further : Further
-  unfolding furtherTests soundTests roomTests
-  further =
-      let wrong : Bool = batchWrong (s .layout) batch in
-      let fails-check : Bool = not (passes s image) in
-      let beyond : Bool = ltb (s .layout .«slot_capacity» - s .«slot_highwater») (newCount (s .layout) (isLive s image) batch) in
-      let behind : Bool = fallsBehind s image batch in
-      let p₁ = first-none ((wrong, invalid-input) ∷ []) _ tt (both .1) in
-      let p₂ = first-none ((fails-check, needs-rebuild) ∷ []) _ tt (p₁ .1) in
-      let p₃ = first-none ((beyond, full) ∷ []) ((behind, out-of-order) ∷ []) tt (p₂ .1) in
-      record {
-        right = fails wrong 6 (p₁ .0);
-        passed = not-false (passes s image) (fails fails-check 0 (p₂ .0));
-        room = ltb-false _ _ (fails beyond 4 (p₃ .0));
-        ahead = fails behind 5 (p₃ .1);
-      }
+  further : Further s image batch
+  further = further-facts s image batch (both .1)
 
   fit : Shaped s image
   fit = fit-shaped o image s (judged-fit o image (roles .0))
 
-  formed : Formed (s .layout .ordered) (tableOf s image)
-  unfolding passes tableOf
-  formed =
-      passes-formed (tableOf s image) (s .«live_count») (s .«bucket_tombstones») (further .passed) (fit .counters) (omega (arith, fit .highwater, fit .laid .room))
+  pub accepted-ready : Ready s image batch
+  accepted-ready = may-commit s image batch fit (further .passed) (omega (arith, further .room, fit .highwater)) (further .ahead)
 
   is-dirty : value image F.state ≡ DIRTY
   is-dirty =
@@ -119,5 +118,5 @@ module _ (o : Options) (image batch : List ℕ) (accepted : firstOf (commitTests
         more = has-more bytes;
         right = further .right;
         passed = further .passed;
-        ready = record { fit = fit; formed = formed; room = omega (arith, further .room, fit .highwater); ahead = further .ahead };
+        ready = accepted-ready;
       }

@@ -12,6 +12,7 @@ use lib.ListN.{length}
 use borrow.Author.Tests.{lt-ltb, not-true}
 use Rattle.numbers.specs.Bytes.{below}
 use Rattle.probing.specs.Table.{Table}
+use Rattle.probing.specs.Report.{Missing}
 use Rattle.probing.specs.Change.{inserted}
 use Rattle.probing.specs.Clip.{clip}
 use Rattle.probing.specs.Counting.{allTo}
@@ -22,6 +23,7 @@ use Rattle.header.specs.declared.shape.Shape.{Shape}
 use Rattle.header.specs.Shaped.{Shaped}
 use Rattle.image.specs.Table.{metaOf, keyOf, tableOf}
 use Rattle.image.specs.Lookup.{probeOf, isLive}
+use Rattle.image.specs.Check.{passes}
 use Rattle.slots.specs.Slots.{appended}
 use Rattle.slots.proofs.Table.Around.{Around, around-then, around-shaped, SameSlot, same-slot-self, same-slot-then}
 use Rattle.slots.proofs.Table.Appended.{Holds, holds-then, grown, grown-shaped, appended-around, appended-other, appended-new, appended-table}
@@ -31,7 +33,7 @@ use Rattle.header.specs.Counters.{withCounters, withSlots}
 use Rattle.soundness.specs.Apply.{afterLive, afterNew}
 use Rattle.soundness.specs.Commit.{fallsBehind}
 use Rattle.batch.proofs.Records.{record-length}
-use Rattle.soundness.proofs.Formed.{Formed, formed-clip, clip-formed, inserted-formed}
+use Rattle.soundness.proofs.Formed.{Formed, formed-clip, clip-formed, inserted-formed, passes-formed}
 use Rattle.soundness.proofs.Live.{Kept, live-kept}
 use Rattle.image.proofs.Looked.{not-live}
 use Rattle.batch.proofs.NewRanks.{is-new, new-at, keys-differ, keys-rise}
@@ -53,6 +55,19 @@ pub record Ready (s : Shape) (image batch : List ℕ) : Type 0 where
   pub formed : Formed (s .layout .ordered) (tableOf s image)
   pub room : s .«slot_highwater» + newCount (s .layout) (isLive s image) batch ≤ s .layout .«slot_capacity»
   pub ahead : fallsBehind s image batch ≡ false
+
+-- it may, where the full check passes
+pub may-commit : (s : Shape) (image batch : List ℕ) → Shaped s image → passes s image ≡ true
+    → s .«slot_highwater» + newCount (s .layout) (isLive s image) batch ≤ s .layout .«slot_capacity» → fallsBehind s image batch ≡ false → Ready s image batch
+unfolding passes tableOf
+may-commit s image batch fit passed room ahead =
+    record {
+      fit = fit;
+      formed =
+          passes-formed (tableOf s image) (s .«live_count») (s .«bucket_tombstones») passed (fit .counters) (omega (arith, fit .highwater, fit .laid .room));
+      room = room;
+      ahead = ahead;
+    }
 
 -- What the new keys of ranks below r leave, by slots given out.
 pub record Grown (s : Shape) (image batch : List ℕ) (r : ℕ) (image′ : List ℕ) : Type 0 where
@@ -221,3 +236,9 @@ module _ (s : Shape) (image batch : List ℕ) (ready : Ready s image batch) wher
         new = λ q lq. absurd (omega arith);
       }
   new-grown (suc r) l = appended-grown r l (afterNew s image batch r) (new-grown r (omega arith))
+
+  -- the new key of rank r is not there when its turn comes
+  pub new-missing : (r : ℕ) → r < newCount (s .layout) (isLive s image) batch
+      → Missing (tableOf (withSlots s (s .«slot_highwater» + r)) (afterNew s image batch r)) (recordKey (s .layout) batch (newAt (s .layout) (isLive s image) batch r))
+  unfolding tableOf withSlots withCounters
+  new-missing r l = let so = new-grown r (omega arith) in absent-iff _ (so .formed .sound) _ .1 (none r l (afterNew s image batch r) so)

@@ -1,6 +1,6 @@
 -- What the records do to live keys: a put rewrites, a delete takes the key's slot out of the index, and all else stays.
 -- Assumes nothing.
-use Prim.Native.Nat.{ℕ, zero, suc, _+_, _-_, _%_, _≤_, _<_}
+use Prim.Native.Nat.{ℕ, zero, suc, _≤_, _<_}
 use mathlib.Core.Bool.{Bool, true, false, cond, not, _&&_}
 use mathlib.Core.Path.{_≡_, refl, sym, ap, subst, _∙_}
 use mathlib.Core.Logic.{_↔_}
@@ -9,8 +9,7 @@ use native.Mathlib.Nat.{mod-lt}
 use native.Mathlib.Omega.{arith}
 use lib.Dec.{eqb}
 use borrow.Author.Tests.{eq-eqb}
-use Rattle.digests.specs.Fnv.{fnv1a64}
-use Rattle.probing.specs.Probe.{Probed, found, absent, broken, probe}
+use Rattle.probing.specs.Probe.{Probed, found, absent, broken, lastOf, probe}
 use Rattle.probing.specs.Change.{deleted}
 use Rattle.probing.specs.Clip.{clip}
 use Rattle.probing.proofs.Counting.{one-more}
@@ -125,12 +124,13 @@ module _ (s : Shape) (image batch : List ℕ) (i : ℕ) (before : List ℕ) (kep
     -- "Delete on a live key"
     module _ (turn : decides (s .layout) batch i ≡ true) (delete : eqb (metaIn (recordAt (s .layout) batch i)) 1 ≡ false) where
       abbrev bucket : ℕ
-      bucket = (fnv1a64 key % s .layout .«bucket_count» + (count - 1)) % s .layout .«bucket_count»
+      bucket = lastOf (tableOf s before) key count
 
       abbrev after : List ℕ
       after = removed (s .layout) before n bucket
 
       inside-buckets : bucket < s .layout .«bucket_count»
+      unfolding tableOf
       inside-buckets = mod-lt _ (omega (arith, kept .fit .laid .room))
 
       inside-slots : n < s .layout .«slot_capacity»
@@ -195,7 +195,7 @@ module _ (s : Shape) (image batch : List ℕ) (i : ℕ) (before : List ℕ) (kep
       by-meta : decides (s .layout) batch i ≡ true → (n count : ℕ) → probe (tableOf s before) key ≡ found n count → (put : Bool)
           → eqb (metaIn (recordAt (s .layout) batch i)) 1 ≡ put
           → Kept s image batch (suc i) (cond put (rewritten (s .layout) before n (recordAt (s .layout) batch i))
-          (removed (s .layout) before n ((fnv1a64 key % s .layout .«bucket_count» + (count - 1)) % s .layout .«bucket_count»)))
+          (removed (s .layout) before n (lastOf (tableOf s before) key count)))
       by-meta d n count e true put = on-put inside n count e put
       by-meta d n count e false put = on-delete inside n count e d put
 

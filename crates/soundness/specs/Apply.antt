@@ -1,12 +1,12 @@
 -- What a commit whose tests all pass does to the image, sentence by sentence.
 -- Assumes nothing.
-use Prim.Native.Nat.{ℕ, zero, suc, _+_, _*_, _-_, _%_}
+use Prim.Native.Nat.{ℕ, zero, suc, _+_, _*_}
 use mathlib.Core.Bool.{Bool, cond, not, _&&_}
 use mathlib.Core.List.{List}
 use lib.Dec.{eqb, ltb}
-use Rattle.digests.specs.Fnv.{fnv1a64}
-use Rattle.probing.specs.Probe.{Probed, found, absent, broken}
+use Rattle.probing.specs.Probe.{Probed, found, absent, broken, lastOf}
 use Rattle.probing.specs.Table.{liveCount, tombstoneCount}
+use Rattle.header.specs.declared.shape.Layout.{Layout}
 use Rattle.header.specs.declared.shape.Shape.{Shape}
 use Rattle.header.specs.Counters.{withCounters, withSlots}
 use Rattle.image.specs.Table.{tableOf}
@@ -16,12 +16,13 @@ use Rattle.batch.specs.Batch.{recordCount, recordAt, metaIn, keyIn, recordKey, 
 use Rattle.batch.specs.NewKeys.{isNew, newCount, newAt}
 
 -- "Put on a live key rewrites revision and index in its slot. Delete on a live key clears meta alone and makes its bucket a
--- TOMBSTONE; delete on an absent key does nothing." The bucket is the last one that the probe examined.
+-- TOMBSTONE": record r does so with slot n and bucket b
+abbrev pub onSlot : Layout → List ℕ → List ℕ → ℕ → ℕ → List ℕ
+onSlot l image r n b = cond (eqb (metaIn r) 1) (rewritten l image n r) (removed l image n b)
+
+-- The bucket is the last one that the probe examined. "delete on an absent key does nothing"
 abbrev pub onLive : Shape → List ℕ → List ℕ → Probed → List ℕ
-onLive s image r (found n count) =
-    cond (eqb (metaIn r) 1) (rewritten (s .layout) image n r)
-    (removed (s .layout) image n
-    ((fnv1a64 (keyIn (s .layout) r) % s .layout .«bucket_count» + (count - 1)) % s .layout .«bucket_count»))
+onLive s image r (found n count) = onSlot (s .layout) image r n (lastOf (tableOf s image) (keyIn (s .layout) r) count)
 onLive s image r (absent count) = image
 onLive s image r broken = image
 

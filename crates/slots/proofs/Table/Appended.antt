@@ -11,12 +11,14 @@ use Rattle.numbers.specs.Signed.{signed}
 use Rattle.numbers.proofs.PutPart.{part-put-in}
 use Rattle.digests.specs.Fnv.{fnv1a64}
 use Rattle.probing.specs.Table.{Table}
+use Rattle.probing.specs.Probe.{probe}
+use Rattle.probing.specs.Report.{Missing}
 use Rattle.probing.specs.Change as change
 use Rattle.probing.specs.Change.{inserted, placed}
 use Rattle.probing.specs.Clip.{clip}
 use Rattle.probing.proofs.Change.{by-update}
 use Rattle.probing.proofs.Place.{place-same}
-use Rattle.probing.proofs.Clip.{agree-clip, clip-appended}
+use Rattle.probing.proofs.Clip.{agree-clip, probe-clip, clip-appended}
 use Rattle.header.specs.declared.shape.Layout.{Layout}
 use Rattle.header.specs.declared.shape.Shape.{Shape}
 use Rattle.header.specs.Counters.{withCounters, withSlots}
@@ -77,6 +79,10 @@ module _ (s : Shape) (image : List ℕ) (fit : Shaped s image) (room : s .«slot
   written j m l =
       part-put-in image (slotAt (s .layout) n) bytes (fits-slots (s .layout) image (fit .laid) (slotAt (s .layout) n) bytes n room (omega arith) high) j m (omega arith)
 
+  -- the other slots, when the slot is written
+  others : (m : ℕ) → (m ≡ n → ⊥) → SameSlot (s .layout) image mid m
+  others = slot-put-slot (s .layout) image (fit .laid) (slotAt (s .layout) n) bytes n room (omega arith) high
+
   pub appended-around : Around image (appended s image bytes)
   unfolding appended
   appended-around = around-then mid-around (indexed-around s mid mid-fit n room)
@@ -85,7 +91,7 @@ module _ (s : Shape) (image : List ℕ) (fit : Shaped s image) (room : s .«slot
   pub appended-other : (m : ℕ) → m < s .layout .«slot_capacity» → (m ≡ n → ⊥) → SameSlot (s .layout) image (appended s image bytes) m
   unfolding appended
   appended-other m l other =
-      same-slot-then (slot-put-slot (s .layout) image (fit .laid) (slotAt (s .layout) n) bytes n room (omega arith) high m other) (indexed-slot s mid mid-fit n room m l)
+      same-slot-then (others m other) (indexed-slot s mid mid-fit n room m l)
 
   -- the new slot is the record
   pub mid-new : Holds (s .layout) mid n bytes
@@ -101,6 +107,23 @@ module _ (s : Shape) (image : List ℕ) (fit : Shaped s image) (room : s .«slot
             (ap (λ (x : List ℕ). signed (word x)) (written (8 + align8 (s .layout .«key_size»)) 8 (omega arith)));
         index = rw (add-assoc (slotAt (s .layout) n) 16 (align8 (s .layout .«key_size»))) (written (16 + align8 (s .layout .«key_size»)) (s .layout .«index_size») (omega arith));
       }
+
+  -- a key that was not there is not there yet
+  pub mid-missing : (key : List ℕ) → Missing (tableOf s image) key → Missing (tableOf s mid) key
+  unfolding tableOf
+  mid-missing key none = (
+    none .0,
+    sym (probe-clip (tableOf s mid) (omega (arith, fit .laid .room)) key)
+        ∙ ap (λ (t : Table). probe t key) same-clip
+        ∙ probe-clip (tableOf s image) (omega (arith, fit .laid .room)) key
+        ∙ none .1,
+  )
+    where
+      same-clip : clip (tableOf s mid) ≡ clip (tableOf s image)
+      same-clip =
+          agree-clip (tableOf s mid) (tableOf s image) refl refl refl
+          (λ b l. slot-put-bucket (s .layout) image (fit .laid) (slotAt (s .layout) n) bytes n room (omega arith) high b)
+          (λ m l. others m (omega arith) .meta) (λ m l. others m (omega arith) .key)
 
   pub appended-new : Holds (s .layout) (appended s image bytes) n bytes
   unfolding appended
@@ -125,9 +148,6 @@ module _ (s : Shape) (image : List ℕ) (fit : Shaped s image) (room : s .«slot
         (λ b l. slot-put-bucket (s .layout) image (fit .laid) (slotAt (s .layout) n) bytes n room (omega arith) high b)
         (λ m l. by-update (metaOf (s .layout) image) n 1 m (λ at v. ap (metaOf (s .layout) mid) at ∙ mid-new .meta ∙ alive ∙ sym v) (λ other v. others m other .meta ∙ sym v))
         (λ m l. by-update (keyOf (s .layout) image) n key m (λ at v. ap (keyOf (s .layout) mid) at ∙ mid-new .key ∙ sym v) (λ other v. others m other .key ∙ sym v))
-      where
-        others : (m : ℕ) → (m ≡ n → ⊥) → SameSlot (s .layout) image mid m
-        others = slot-put-slot (s .layout) image (fit .laid) (slotAt (s .layout) n) bytes n room (omega arith) high
 
     -- the table with the key inserted
     pub appended-table : clip (tableOf (grown s) (appended s image bytes)) ≡ inserted (clip (tableOf s image)) key

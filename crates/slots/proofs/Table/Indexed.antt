@@ -12,18 +12,28 @@ use Rattle.numbers.proofs.Put.{put-put, length-put}
 use Rattle.numbers.proofs.PutPart.{length-bytes, part-put-before}
 use Rattle.digests.specs.Fnv.{fnv1a64}
 use Rattle.probing.specs.Table.{FULL}
+use Rattle.probing.specs.Report.{Missing, freeBy}
 use Rattle.probing.specs.Change.{place, placed}
 use Rattle.probing.specs.Clip.{clip}
 use Rattle.probing.proofs.Change.{by-update}
+use Rattle.probing.proofs.Report.{place-reported}
 use Rattle.probing.proofs.Clip.{agree-clip, place-inside, clip-placed}
 use Rattle.header.specs.declared.shape.Shape.{Shape}
 use Rattle.header.specs.Shaped.{Shaped}
+use Rattle.image.specs.declared.probe.Report.{Report}
+use Rattle.image.specs.Told.{reportOf}
 use Rattle.image.specs.Table.{all-ones, bucketAt, keyOf, bucketFrom, bucketOf, tableOf}
 use Rattle.image.proofs.Places.{bucket-inside}
 use Rattle.slots.specs.Slots.{indexed}
 use Rattle.slots.proofs.Table.ReadBack.{word-put, hash-fits}
 use Rattle.slots.proofs.Table.Around.{Around, SameSlot}
 use Rattle.slots.proofs.Table.Apart.{bucket-put-around, bucket-put-slot, bucket-put-bucket}
+
+-- the place of a key that is not there, by the report of its probe
+pub reported-place : (s : Shape) (image key : List ℕ) (r : Report) → r ≡ reportOf s image key → Missing (tableOf s image) key
+    → freeBy (s .layout .«bucket_count») (r .tombstone) (r .bucket) ≡ place (tableOf s image) key
+unfolding reportOf tableOf
+reported-place s image key r e none = rw e (place-reported (tableOf s image) key (none .0) (none .1))
 
 module _ (s : Shape) (image : List ℕ) (fit : Shaped s image) (n : ℕ) (inside : n < s .layout .«slot_capacity») where
   abbrev bucket : ℕ

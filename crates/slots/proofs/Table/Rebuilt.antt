@@ -8,18 +8,24 @@ use native.Mathlib.Nat.{le-refl, add-assoc}
 use native.Mathlib.Numerals.{add-one}
 use native.Mathlib.Omega.{arith}
 use lib.Dec.{eqb}
+use borrow.Author.Tests.{lt-ltb}
 use lib.ListN.{length, replicate, length-replicate}
 use Rattle.numbers.specs.Bytes.{word, part, put}
 use Rattle.numbers.proofs.PutPart.{part-put-in}
-use Rattle.probing.specs.Table.{EMPTY, Table}
+use Rattle.probing.specs.Table.{EMPTY, Table, liveCount}
+use Rattle.probing.specs.Probe.{probe}
+use Rattle.probing.specs.Report.{Missing}
+use Rattle.probing.specs.Sound.{Sound}
 use Rattle.probing.specs.Change as change
 use Rattle.probing.specs.Change.{placed}
 use Rattle.probing.specs.Clip.{clip}
-use Rattle.probing.proofs.Clip.{agree-clip, live-clip, clip-emptied}
+use Rattle.probing.proofs.Clip.{agree-clip, probe-clip, live-clip, sound-clip, clip-emptied}
+use Rattle.probing.proofs.Counting.{count-le}
+use Rattle.probing.proofs.Rebuild.{unbuilt}
 use Rattle.header.specs.declared.shape.Shape.{Shape}
 use Rattle.header.specs.Shaped.{Shaped}
 use Rattle.header.specs.Sizes.{bucketsOffset}
-use Rattle.image.specs.Table.{bucketAt, metaOf, bucketFrom, bucketOf, tableOf}
+use Rattle.image.specs.Table.{bucketAt, metaOf, keyOf, bucketFrom, bucketOf, tableOf}
 use Rattle.image.proofs.Places.{slot-ends}
 use Rattle.slots.specs.Slots.{indexed, rebuiltTo, rebuilt}
 use Rattle.slots.proofs.Table.ReadBack.{word-zeros}
@@ -104,6 +110,25 @@ module _ (s : Shape) (image : List ℕ) (fit : Shaped s image) where
   rebuilt-more n before l e =
       let meta = built n (omega arith) .slots n (omega (arith, fit .highwater)) .meta in
       rw (add-one, e) (ap (λ (m : ℕ). cond (eqb m 1) (indexed s (rebuiltTo s image n) n) (rebuiltTo s image n)) meta)
+
+  -- its key is not in the index yet
+  pub rebuilt-missing : Sound (tableOf s image) → (n : ℕ) (before : List ℕ) → n < s .«slot_highwater» → before ≡ rebuiltTo s image n
+      → metaOf (s .layout) before n ≡ 1 → Missing (tableOf s before) (keyOf (s .layout) before n)
+  unfolding clip tableOf liveCount
+  rebuilt-missing sound n before l e alive =
+      let t = clip (tableOf s image) in
+      let b = built n (omega arith) in
+      let slot = b .slots n (omega (arith, fit .highwater)) in
+      let below = lt-ltb n (s .«slot_highwater») l in
+      let key : keyOf (s .layout) before n ≡ t .key n = rw (e, below) (slot .key) in
+      let none = unbuilt t (omega (arith, count-le (s .«slot_highwater») (λ m. eqb (t .meta m) 1), fit .highwater, fit .laid .room))
+      (sound-clip (tableOf s image) .1 sound .different) n l (rw below (sym (slot .meta) ∙ (rw e at alive))) in (
+        none .0,
+        ap (probe (tableOf s before)) key
+            ∙ sym (probe-clip (tableOf s before) (omega (arith, fit .laid .room)) (t .key n))
+            ∙ ap (λ (u : Table). probe u (t .key n)) (ap (λ (i : List ℕ). clip (tableOf s i)) e ∙ b .table)
+            ∙ none .1,
+      )
 
   pub rebuilt-around : Around image (rebuilt s image)
   unfolding rebuilt

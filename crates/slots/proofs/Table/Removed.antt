@@ -1,6 +1,6 @@
 -- A slot removed: its meta is cleared and its bucket a TOMBSTONE, and all else stays.
 -- Assumes nothing.
-use Prim.Native.Nat.{ℕ, _+_, _-_, _%_, _≤_, _<_}
+use Prim.Native.Nat.{ℕ, _+_, _≤_, _<_}
 use mathlib.Core.Path.{_≡_, refl, sym, ap, ap₂, _∙_}
 use mathlib.Core.List.{List}
 use native.Mathlib.Decide.{ℕ-discrete}
@@ -10,7 +10,7 @@ use lib.ListN.{length}
 use Rattle.numbers.specs.Bytes.{bytesOf, put}
 use Rattle.numbers.proofs.PutPart.{length-bytes}
 use Rattle.probing.specs.Table.{TOMBSTONE}
-use Rattle.probing.specs.Probe.{Probed, found, home, probe}
+use Rattle.probing.specs.Probe.{Probed, found, lastOf, probe}
 use Rattle.probing.specs.Change.{deletedAt, deleted}
 use Rattle.probing.specs.Clip.{clip}
 use Rattle.probing.proofs.Change.{by-update}
@@ -122,7 +122,7 @@ module _ (s : Shape) (image : List ℕ) (fit : Shaped s image) (n b : ℕ) (insi
 
   -- the table with the key deleted, where its probe found the slot and ended at the bucket
   pub removed-table : (k : List ℕ) (count : ℕ) → probe (tableOf s image) k ≡ found n count
-      → b ≡ (home (tableOf s image) k + (count - 1)) % s .layout .«bucket_count» → clip (tableOf s after) ≡ deleted (clip (tableOf s image)) k
+      → b ≡ lastOf (tableOf s image) k count → clip (tableOf s after) ≡ deleted (clip (tableOf s image)) k
   unfolding deleted tableOf
   removed-table k count e at =
       removed-cleared

@@ -1,14 +1,19 @@
 -- `applying::apply::append_all` meets its contract. The loop's invariant: the new keys so far have their slots.
 -- Assumes nothing.
-use Prim.Native.Nat.{_-_, _≤_}
+use Prim.Native.Nat.{ℕ, _+_, _-_, _≤_}
 use borrow.Author.Needs.{needs}
-use lib.ListN.{length}
-use mathlib.Core.Path.{_≡_, refl, ap, _∙_}
+use lib.ListN.{length, getD}
+use mathlib.Core.List.{List}
+use mathlib.Core.Path.{_≡_, refl, sym, ap, subst, _∙_}
 use native.Mathlib.Numerals.{add-one}
 use native.Mathlib.Omega.{arith}
 use Rattle.applying.proofs.StepsKeepHeader.{new-all-kept}
 use Rattle.applying.specs.Prepared.{oneAppended, appendedTo}
+use Rattle.probing.specs.Report.{Missing}
+use Rattle.header.specs.Counters.{withSlots}
 use Rattle.header.specs.Shaped.{Shaped}
+use Rattle.image.specs.Table.{tableOf}
+use Rattle.batch.specs.Batch.{recordKey}
 use Rattle.slots.proofs.Table.Around.{around-shaped}
 use Rattle.applying.proofs.apply.append_all.Statement.{statement}
 use Rattle.applying.proofs.apply.append_all.Tie as tie
@@ -28,10 +33,12 @@ append-one-requires c κs =
     let b = c .before .before .before .before .before .before .before in
     let a = b .args in
     let l = c .before .before .loop in
-    let there = b .pre .1 .1 .1 .1 in
+    let there = b .pre .1 .1 .1 .1 .0 in
+    let none = subst (λ (i : List ℕ). Missing (tableOf (withSlots (a .s) (a .s .«slot_highwater» + l .k)) i) (recordKey (a .s .layout) (a .batch .now) (getD (a .order .now) (l .k) 0))) (sym (l .inv .1))
+    (b .pre .1 .1 .1 .1 .1 (l .k) (omega arith)) in
     let kept = new-all-kept (a .s) (a .image .now) (b .pre .0) (a .batch .now) (a .order .now) (a .count) (search needs) there (l .k) (omega arith) in
     let fit : Shaped (a .s) (l .image) = rw (l .inv .1) (around-shaped kept (b .pre .0)) in
-    (fit, (search needs, ((search needs, there (l .k) (omega arith)), search needs)))
+    (fit, (search needs, ((search needs, there (l .k) (omega arith)), (search needs, none))))
 
 add-k : tie.Need-add-k Inv-loop μ-loop
 add-k c = search needs
@@ -51,7 +58,7 @@ same-length c =
     let b = c .before .before .before .before .before .before in
     let a = b .args in
     let l = c .before .loop in
-    ap length (l .inv .1) ∙ new-all-kept (a .s) (a .image .now) (b .pre .0) (a .batch .now) (a .order .now) (a .count) (search needs) (b .pre .1 .1 .1 .1) (l .k) (omega arith) .size
+    ap length (l .inv .1) ∙ new-all-kept (a .s) (a .image .now) (b .pre .0) (a .batch .now) (a .order .now) (a .count) (search needs) (b .pre .1 .1 .1 .1 .0) (l .k) (omega arith) .size
 
 returns : tie.Need-returns Inv-loop μ-loop
 returns c =

@@ -11,6 +11,8 @@ use Rattle.applying.specs.Prepared.{oneAppended}
 use Rattle.batch.proofs.Records.{record-length}
 use Rattle.batch.specs.Batch.{recordKey, keyIn}
 use Rattle.digests.specs.Fnv.{fnv1a64}
+use Rattle.probing.specs.Report.{Missing}
+use Rattle.image.specs.Table.{tableOf}
 use Rattle.header.specs.Counters.{withCounters, withSlots}
 use Rattle.header.specs.Shaped.{Shaped}
 use Rattle.header.specs.declared.shape.Shape.{Shape}
@@ -51,12 +53,13 @@ append-requires c κs =
     let r = c .before .«record» .result .now in
     let there = b .pre .1 .1 .0 .1 in
     let n = a .s .«slot_highwater» + a .k in
-    let room : n < a .s .layout .«slot_capacity» = search needs in
+    let room : n < a .s .layout .«slot_capacity» = b .pre .1 .1 .1 .0 in
     let whole : length r ≡ a .s .layout .«slot_size» = ap length (c .before .«record» .ensures) ∙ record-length (a .s .layout) (a .batch .now) i there in
     let hashed : getD (a .hashes .now) i 0 ≡ fnv1a64 (keyIn (a .s .layout) r) =
     b .pre .1 .0 .each i there ∙ ap (λ r. fnv1a64 (keyIn (a .s .layout) r)) (sym (c .before .«record» .ensures)) in
-    subst (λ (t : Shape). Shaped t (a .image .now) × ((t .«slot_highwater» < t .layout .«slot_capacity») × ((length r ≡ t .layout .«slot_size») × (getD (a .hashes .now) i 0 ≡ fnv1a64 (keyIn (t .layout) r)))))
-    (sym (c .before .before .with-slots .ensures)) (slots-shaped (a .s) (a .image .now) (b .pre .0) n (omega arith) (omega arith), (room, (whole, hashed)))
+    let none = subst (λ (q : List ℕ). Missing (tableOf (withSlots (a .s) n) (a .image .now)) (keyIn (a .s .layout) q)) (sym (c .before .«record» .ensures)) (b .pre .1 .1 .1 .1) in
+    subst (λ (t : Shape). Shaped t (a .image .now) × ((t .«slot_highwater» < t .layout .«slot_capacity») × ((length r ≡ t .layout .«slot_size») × ((getD (a .hashes .now) i 0 ≡ fnv1a64 (keyIn (t .layout) r)) × Missing (tableOf t (a .image .now)) (keyIn (t .layout) r)))))
+    (sym (c .before .before .with-slots .ensures)) (slots-shaped (a .s) (a .image .now) (b .pre .0) n (omega arith) (omega arith), (room, (whole, (hashed, none))))
 
 same-length : tie.Need-same-length
 same-length c = search needs

@@ -1,41 +1,39 @@
 -- `applying::apply::apply` meets its contract. Records act, new keys are appended, and the index and the counters are settled.
 -- Assumes nothing.
-use Prim.Native.Nat.{ℕ, _+_}
+use Prim.Native.Nat.{ℕ}
 use borrow.Author.Needs.{needs}
 use mathlib.Core.List.{List}
-use mathlib.Core.Path.{_≡_, sym, _∙_, subst}
+use mathlib.Core.Path.{_≡_, sym, ap, _∙_, subst}
+use native.Mathlib.Nat.{le-refl}
 use native.Mathlib.Omega.{arith}
-use Rattle.applying.proofs.Applied.{order-below, applied}
-use Rattle.applying.proofs.StepsKeepHeader.{slots-shaped, live-all-kept, new-all-kept}
-use Rattle.soundness.specs.Apply.{actedTo}
-use Rattle.applying.specs.Prepared.{appendedTo}
+use Rattle.applying.proofs.Applied.{order-below, live-turns, in-order, left-live, left-new, all-missing, applied}
+use Rattle.soundness.specs.Apply.{actedTo, afterLive, afterNew}
+use Rattle.soundness.proofs.Grown.{Grown}
+use Rattle.applying.specs.Prepared.{appendedTo, AllMissing}
+use Rattle.probing.specs.Sound.{Sound}
+use Rattle.image.specs.Table.{tableOf}
 use Rattle.batch.specs.Batch.{recordCount}
 use Rattle.batch.specs.Notes.{newBy}
 use Rattle.header.specs.Shaped.{Shaped}
 use Rattle.header.specs.declared.shape.Shape.{Shape}
-use Rattle.slots.proofs.Table.Around.{Around, around-then, around-generation, around-shaped}
+use Rattle.slots.proofs.Table.Around.{around-generation}
 use Rattle.applying.proofs.apply.apply.Statement.{statement}
 use Rattle.applying.proofs.apply.apply.Tie as tie
 
--- what is kept when all records have acted, and when all new keys are appended
-kept-live : (b : tie.Start) (one : List ℕ) → one ≡ actedTo (b .args .s) (newBy (b .args .turns .now)) (b .args .image .now) (b .args .batch .now) (recordCount (b .args .s .layout) (b .args .batch .now))
-    → Around (b .args .image .now) one
-kept-live b one e =
+-- the image when all records have acted, and when all new keys are appended
+live-by : (b : tie.Start) (one : List ℕ) → one ≡ actedTo (b .args .s) (newBy (b .args .turns .now)) (b .args .image .now) (b .args .batch .now) (recordCount (b .args .s .layout) (b .args .batch .now))
+    → one ≡ afterLive (b .args .s) (b .args .image .now) (b .args .batch .now) (recordCount (b .args .s .layout) (b .args .batch .now))
+live-by b one e =
     let a = b .args in
-    rw e (live-all-kept (a .s) (a .image .now) (b .pre .0) (a .batch .now) (newBy (a .turns .now)) (recordCount (a .s .layout) (a .batch .now)) (omega arith))
+    e ∙ live-turns (a .s) (a .image .now) (a .batch .now) (a .hashes .now) (a .turns .now) (a .order .now) (a .count) (b .pre .1 .1)
 
-kept-all : (b : tie.Start) (one : List ℕ) → one ≡ actedTo (b .args .s) (newBy (b .args .turns .now)) (b .args .image .now) (b .args .batch .now) (recordCount (b .args .s .layout) (b .args .batch .now))
+new-by : (b : tie.Start) (one : List ℕ) → one ≡ actedTo (b .args .s) (newBy (b .args .turns .now)) (b .args .image .now) (b .args .batch .now) (recordCount (b .args .s .layout) (b .args .batch .now))
     → (two : List ℕ) → two ≡ appendedTo (b .args .s) (b .args .batch .now) (b .args .order .now) one (b .args .count)
-    → Around (b .args .image .now) two
-kept-all b one e two d =
+    → two ≡ afterNew (b .args .s) (b .args .image .now) (b .args .batch .now) (b .args .count)
+new-by b one e two d =
     let a = b .args in
-    let ready = b .pre .1 .1 in
-    let first = kept-live b one e in
-    let second : Around one two =
-    rw d
-    (new-all-kept (a .s) one (around-shaped first (b .pre .0)) (a .batch .now) (a .order .now) (a .count) (ready .room)
-    (order-below (a .s) (a .image .now) (a .batch .now) (a .hashes .now) (a .turns .now) (a .order .now) (a .count) ready) (a .count) (omega arith)) in
-    around-then first second
+    d ∙ ap (λ (i : List ℕ). appendedTo (a .s) (a .batch .now) (a .order .now) i (a .count)) (live-by b one e)
+    ∙ in-order (a .s) (a .image .now) (a .batch .now) (a .hashes .now) (a .turns .now) (a .order .now) (a .count) (b .pre .1 .1) (a .count) (le-refl _)
 
 act-all-requires : tie.Need-act-all-requires
 act-all-requires c κs = let ready = c .before .before .before .before .before .before .pre .1 .1 in (search needs, (ready .hashed, (_, ready .turned)))
@@ -44,9 +42,18 @@ append-all-requires : tie.Need-append-all-requires
 append-all-requires c κs =
     let b = c .before .before .before .before .before .before .before .before .before .before in
     let a = b .args in
-    let ready = b .pre .1 .1 in (
-      around-shaped (kept-live b (c .before .before .before .act-all .last .0) (c .before .before .before .act-all .ensures)) (b .pre .0),
-      (ready .hashed, (omega (arith, ready .ordered .fits, ready .ordered .size), (ready .room, order-below (a .s) (a .image .now) (a .batch .now) (a .hashes .now) (a .turns .now) (a .order .now) (a .count) ready))),
+    let ready = b .pre .1 .1 in
+    let e = live-by b (c .before .before .before .act-all .last .0) (c .before .before .before .act-all .ensures) in
+    let fit = left-live (a .s) (a .image .now) (a .batch .now) (a .hashes .now) (a .turns .now) (a .order .now) (a .count) ready (b .pre .0) .fit in
+    let none = all-missing (a .s) (a .image .now) (a .batch .now) (a .hashes .now) (a .turns .now) (a .order .now) (a .count) ready (b .pre .0) in (
+      subst (Shaped (a .s)) (sym e) fit,
+      (
+        ready .hashed,
+        (
+          omega (arith, ready .ordered .fits, ready .ordered .size),
+          (ready .room, (order-below (a .s) (a .image .now) (a .batch .now) (a .hashes .now) (a .turns .now) (a .order .now) (a .count) ready, subst (λ (i : List ℕ). AllMissing (a .s) (a .batch .now) (a .order .now) i (a .count)) (sym e) none)),
+        ),
+      ),
     )
 
 add-with-slots : tie.Need-add-with-slots
@@ -59,12 +66,12 @@ settle-requires : tie.Need-settle-requires
 settle-requires c κs =
     let b = c .before .before .before .before .before .before .before .before .before .before .before .before .before .before .before .before in
     let a = b .args in
-    let ready = b .pre .1 .1 in
     let two = c .before .before .before .before .before .append-all .last .0 in
-    let kept = kept-all b (c .before .before .before .before .before .before .before .before .before .act-all .last .0) (c .before .before .before .before .before .before .before .before .before .act-all .ensures) two (c .before .before .before .before .before .append-all .ensures) in
-    let fit = around-shaped kept (b .pre .0) in (
-      subst (λ (t : Shape). Shaped t two) (sym (c .with-slots .ensures)) (slots-shaped (a .s) _ fit (a .s .«slot_highwater» + a .count) (omega arith) (ready .room)),
-      omega (arith, around-generation kept, b .pre .1 .0),
+    let one = c .before .before .before .before .before .before .before .before .before .act-all in
+    let e = new-by b (one .last .0) (one .ensures) two (c .before .before .before .before .before .append-all .ensures) in
+    let g = subst (Grown (a .s) (a .image .now) (a .batch .now) (a .count)) (sym e) (left-new (a .s) (a .image .now) (a .batch .now) (a .hashes .now) (a .turns .now) (a .order .now) (a .count) (b .pre .1 .1) (b .pre .0)) in (
+      subst (λ (t : Shape). Shaped t two) (sym (c .with-slots .ensures)) (g .fit),
+      (subst (λ (t : Shape). Sound (tableOf t two)) (sym (c .with-slots .ensures)) (g .formed .sound), omega (arith, around-generation (g .around), b .pre .1 .0)),
     )
 
 same-length : tie.Need-same-length
@@ -74,9 +81,11 @@ returns : tie.Need-returns
 returns c =
     let b = c .before .before .before .before .before .before .before .before .before .before .before .before .before .before .before .before .before .before .before in
     let a = b .args in
+    let one = c .before .before .before .before .before .before .before .before .before .before .before .before .act-all in
+    let two = c .before .before .before .before .before .before .before .before .append-all in
     c .before .before .settle .ensures
     ∙ applied (a .s) (a .image .now) (a .batch .now) (a .hashes .now) (a .turns .now) (a .order .now) (a .count) (b .pre .1 .1)
-    _ (c .before .before .before .before .before .before .before .before .before .before .before .before .act-all .ensures) _ (c .before .before .before .before .before .before .before .before .append-all .ensures) _ (c .before .before .before .with-slots .ensures)
+    _ (new-by b _ (one .ensures) _ (two .ensures)) _ (c .before .before .before .with-slots .ensures)
 
 pub apply-spec : {M : Type 1} → statement M
 apply-spec =

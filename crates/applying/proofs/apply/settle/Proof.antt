@@ -33,7 +33,7 @@ publish-requires c κs =
     let kept = tidied-kept (a .s) (a .image .now) (b .pre .0) in
     let g = ap (λ (i : List ℕ). value i generation) e ∙ around-generation kept in
     let n = ap length e ∙ kept .size in
-    (omega (arith, n, header-inside (a .s) (a .image .now) (b .pre .0)), omega (arith, g, b .pre .1))
+    (omega (arith, n, header-inside (a .s) (a .image .now) (b .pre .0)), omega (arith, g, b .pre .1 .1))
 
 same-length : tie.Need-same-length
 same-length c = search needs

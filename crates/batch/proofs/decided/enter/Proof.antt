@@ -6,7 +6,7 @@ use mathlib.Core.Path.{_≡_, ap, _∙_, sym, subst}
 use native.Mathlib.Omega.{arith}
 use lib.ListN.{getD, set}
 use Rattle.probing.specs.Counting.{one}
-use Rattle.probing.specs.Stop.{stop}
+use Rattle.probing.specs.Report.{report}
 use Rattle.batch.specs.Batch.{recordCount, recordKey}
 use Rattle.batch.specs.Index.{index-size, recordTable, Indexed}
 use Rattle.batch.proofs.Indexing.{at-below, vacant-decides, taken-decides, index-stays, index-grows}
@@ -15,7 +15,7 @@ use Rattle.batch.proofs.decided.enter.Tie as tie
 
 -- the bucket where the probe stops
 abbrev at : tie.Start → ℕ
-at b = stop (recordTable (b .args .l) (b .args .batch .now) (b .args .index .now)) (recordKey (b .args .l) (b .args .batch .now) (b .args .i))
+at b = report (recordTable (b .args .l) (b .args .batch .now) (b .args .index .now)) (recordKey (b .args .l) (b .args .batch .now) (b .args .i)) .bucket
 
 below : (b : tie.Start) (r : ℕ) → r ≡ at b → r < index-size
 below b r e =

@@ -9,9 +9,8 @@ use lib.Dec.{eqb}
 use lib.ListN.{getD}
 use borrow.Author.Tests.{eq-eqb, ne-eqb}
 use Rattle.numbers.specs.Bytes.{same}
-use Rattle.probing.specs.Stop.{stopsAt}
 use Rattle.batch.specs.Batch.{recordCount, recordKey}
-use Rattle.batch.specs.Index.{recordTable}
+use Rattle.batch.specs.Index.{recordTable, stopsAt}
 use Rattle.batch.proofs.Indexing.{entry-stops, entry-compares}
 use Rattle.batch.proofs.decided.stops_at.Statement.{statement}
 use Rattle.batch.proofs.decided.stops_at.Tie as tie

@@ -7,7 +7,8 @@ use Rattle.batch.proofs.Noted.{noted-as}
 use Rattle.batch.proofs.Turning.{turn-count, turn-new-at}
 use Rattle.batch.specs.NewKeys.{newCount, newAt}
 use Rattle.batch.specs.Notes.{Noted}
-use Rattle.commit.proofs.TestGroups.{sound-stops, room-decides, sound-small, room-enough}
+use Rattle.commit.proofs.TestGroups.{sound-stops, room-decides, sound-small}
+use Rattle.soundness.proofs.Accepted.{further-facts}
 use Rattle.image.specs.Lookup.{isLive}
 use Rattle.writing.proofs.Answers.{says-refused, says-accepted}
 use Rattle.commit.proofs.commit.commit_in.Statement.{statement}
@@ -80,7 +81,8 @@ apply-requires c κs =
     let b = c .before .before .before .before .before .before .before .before .before .before .before .before .before .before .before .before .before .before .before .before in
     let a = b .args in
     let o = in-order (c .before .before .before .before .before .before .before .before .before) in
-    let room = room-enough (a .s) (a .image .now) (a .batch .now) (b .pre .0) (c .before .before .before .before .before .room-test .ensures) (c .before .before .before .before .if2 .left) in (
+    let none = sym (room-decides (a .s) (a .image .now) (a .batch .now) (c .before .before .before .before .before .before .before .before .before .before .before .before .before .before .before .before .sound-test .ensures) (c .before .before .before .before .before .before .before .before .before .before .before .before .before .before .before .if1 .left) (c .before .before .before .before .before .room-test .ensures)) ∙ c .before .before .before .before .if2 .left in
+    let further = further-facts (a .s) (a .image .now) (a .batch .now) none in (
       b .pre .0,
       (
         b .pre .1,
@@ -89,7 +91,9 @@ apply-requires c κs =
           turned = c .before .before .before .before .before .before .before .before .before .before .before .take-turns .ensures;
           ordered = o .0;
           counted = o .1;
-          room = omega (arith, room, o .1);
+          room = omega (arith, further .room, b .pre .0 .highwater, o .1);
+          ahead = further .ahead;
+          passed = further .passed;
         },
       ),
     )

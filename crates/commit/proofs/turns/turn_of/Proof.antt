@@ -7,7 +7,7 @@ use Rattle.batch.proofs.Every.{flag-down, flag-up}
 use Rattle.batch.specs.Batch.{decides}
 use Rattle.batch.specs.Notes.{live-turn, new-turn, turnOf}
 use Rattle.commit.proofs.Turn.{not-deciding, no-put, by-probe}
-use Rattle.image.proofs.Looked.{heard}
+use Rattle.image.proofs.Looked.{heard, reported-end}
 use Rattle.image.specs.Lookup.{isFound, isLive}
 use Rattle.image.specs.declared.probe.Probe.{Probe}
 use Rattle.commit.proofs.turns.turn_of.Statement.{statement}
@@ -22,13 +22,13 @@ deciding c =
     flag-up _ (sym (b .pre .1 .1 .1 .each (b .args .i) (b .pre .1 .0)) ∙ c .if1 .left)
 
 -- what the probe ends in says it
-ended : (c : tie.After-probe-hashed) (r : Probe) → c .probe-hashed .result ≡ r
+ended : (c : tie.After-probe-hashed) (r : Probe) → c .probe-hashed .result .end ≡ r
     → let a = c .before .before .before .before .before .before .before .before .before .before .before .args in
     cond (isFound (heard r)) live-turn new-turn ≡ turnOf (a .s .layout) (isLive (a .s) (a .image .now)) (a .batch .now) (a .i)
 ended c r e =
     let a = c .before .before .before .before .before .before .before .before .before .before .before .args in
     by-probe (a .s) (a .image .now) (a .batch .now) (a .i) (deciding (c .before .before .before .before .before)) (sym (c .before .before .before .before .record-meta .ensures) ∙ c .before .before .before .if2 .left)
-    _ (c .before .before .record-key .ensures) r (sym e ∙ c .probe-hashed .ensures)
+    _ (c .before .before .record-key .ensures) r (reported-end (a .s) (a .image .now) _ _ (c .probe-hashed .ensures) r e)
 
 shared-slice-read-if1 : tie.Need-shared-slice-read-if1
 shared-slice-read-if1 c = search needs

@@ -7,8 +7,9 @@ use mathlib.Core.List.{List}
 use native.Mathlib.Omega.{arith}
 use Rattle.probing.specs.Probe.{probe}
 use Rattle.image.specs.Table.{metaOf, keyOf, tableOf}
-use Rattle.image.specs.Lookup.{probeOf}
-use Rattle.image.specs.ProbeEnd.{told}
+use Rattle.probing.specs.Report.{report}
+use Rattle.image.specs.declared.probe.Report.{Report}
+use Rattle.image.specs.Told.{told, reportOf}
 use Rattle.image.proofs.Tally.{more-deleted, more-unknown, more-found, more-absent, more-broken, live-small, probes-small, found-small, absent-small}
 use Rattle.image.proofs.check.with_slot.Statement.{statement}
 use Rattle.image.proofs.check.with_slot.Tie as tie
@@ -20,11 +21,11 @@ alive c = sym (c .before .before .meta-of .ensures) ∙ c .if2 .left
 -- the probe is of the slot's key
 probed : (c : tie.After-probe-for)
     → let a = c .before .before .before .before .before .before .before .args in
-    c .probe-for .result ≡ told (probe (tableOf (a .s) (a .image .now)) (keyOf (a .s .layout) (a .image .now) (a .n)))
-unfolding probeOf
+    c .probe-for .result .end ≡ told (probe (tableOf (a .s) (a .image .now)) (keyOf (a .s .layout) (a .image .now) (a .n)))
+unfolding reportOf report
 probed c =
     let a = c .before .before .before .before .before .before .before .args in
-    c .probe-for .ensures ∙ ap (λ (k : List ℕ). told (probe (tableOf (a .s) (a .image .now)) k)) (c .before .key-of .ensures)
+    ap (λ (r : Report). r .end) (c .probe-for .ensures) ∙ ap (λ (k : List ℕ). told (probe (tableOf (a .s) (a .image .now)) k)) (c .before .key-of .ensures)
 
 -- one more lookup count can be added to the sum
 summed : (c : tie.After-probe-for) → let a = c .before .before .before .before .before .before .before .args in a .tally .probes + a .s .layout .«bucket_count» < 2 ^ 64
@@ -68,16 +69,16 @@ probe-for-requires c κs = search needs
 enum-known-p : tie.Need-enum-known-p
 enum-known-p c = search needs
 
-add-t17 : tie.Need-add-t17
+add-t18 : tie.Need-add-t18
 unfolding tableOf
-add-t17 c = omega (arith, summed (c .before .before .before .before .before), found-small _ _ _ _ (sym (c .before .before .before .p .given .1) ∙ probed (c .before .before .before .before .before)))
+add-t18 c = omega (arith, summed (c .before .before .before .before .before), found-small _ _ _ _ (sym (c .before .before .before .p .given .1) ∙ probed (c .before .before .before .before .before)))
 
 enum-known-p-2 : tie.Need-enum-known-p-2
 enum-known-p-2 c = search needs
 
-add-t19 : tie.Need-add-t19
+add-t20 : tie.Need-add-t20
 unfolding tableOf
-add-t19 c = omega (arith, summed (c .before .before .before .before), absent-small _ _ _ (sym (c .before .before .p2 .given .1) ∙ probed (c .before .before .before .before)))
+add-t20 c = omega (arith, summed (c .before .before .before .before), absent-small _ _ _ (sym (c .before .before .p2 .given .1) ∙ probed (c .before .before .before .before)))
 
 enum-told : tie.Need-enum-told
 enum-told c = search needs
@@ -117,9 +118,9 @@ with-slot-spec =
     key-of-requires
     probe-for-requires
     enum-known-p
-    add-t17
+    add-t18
     enum-known-p-2
-    add-t19
+    add-t20
     enum-told
     returns-3
     returns-4

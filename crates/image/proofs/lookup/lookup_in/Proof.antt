@@ -1,7 +1,7 @@
 -- `image::lookup::lookup_in` meets its contract: each end of the probe has its answer.
 -- Assumes nothing.
 use borrow.Author.Needs.{needs, sfits-of}
-use mathlib.Core.Path.{_≡_, sym, ap, _∙_}
+use mathlib.Core.Path.{_≡_, ap, _∙_}
 use native.Mathlib.Omega.{arith}
 use mir.Facts.{toZ-ofZ}
 use mir.Syntax.{w64}
@@ -9,17 +9,17 @@ use lib.IntN.{ℤ}
 use Rattle.header.specs.Answer.{done}
 use Rattle.image.specs.declared.probe.Probe.{Probe}
 use Rattle.image.specs.Lookup.{probeOf, lookupBy, lookupIn}
-use Rattle.image.proofs.Looked.{heard, told-end, found-below, looked-other, looked-by}
+use Rattle.image.proofs.Looked.{heard, reported-end, found-below, looked-other, looked-by}
 use Rattle.image.proofs.lookup.lookup_in.Statement.{statement}
 use Rattle.image.proofs.lookup.lookup_in.Tie as tie
 
 -- what the probe ends in
-ended : (c : tie.After-probe-for) (r : Probe) → c .probe-for .result ≡ r
+ended : (c : tie.After-probe-for) (r : Probe) → c .probe-for .result .end ≡ r
     → let a = c .before .before .before .before .before .args in probeOf (a .s) (a .image .now) (a .key .now) ≡ heard r
-ended c r e = told-end r _ (sym e ∙ c .probe-for .ensures)
+ended c r e = reported-end _ _ _ _ (c .probe-for .ensures) r e
 
 -- what lookup answers then
-looked : (c : tie.After-probe-for) (r : Probe) → c .probe-for .result ≡ r
+looked : (c : tie.After-probe-for) (r : Probe) → c .probe-for .result .end ≡ r
     → let a = c .before .before .before .before .before .args in
     lookupBy (a .s) (a .image .now) (heard r) ≡ lookupIn (a .s) (a .image .now) (a .key .now)
 looked c r e =

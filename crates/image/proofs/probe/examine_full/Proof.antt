@@ -28,13 +28,13 @@ compared c =
 returns : tie.Need-returns
 returns c =
     let a = c .before .before .before .before .args in
-    λ count onward. full-past (a .s) (a .image .now) (a .key .now) (a .hash64) (a .n) count onward (search needs)
+    full-past (a .s) (a .image .now) (a .key .now) (a .hash64) (a .n) (search needs)
 
 returns-2 : tie.Need-returns-2
 returns-2 c =
     let b = c .before .before .before .before .before in
     let a = b .args in
-    λ count onward. full-other-hash (a .s) (a .image .now) (a .key .now) (a .hash64) (a .n) count onward (search needs)
+    full-other-hash (a .s) (a .image .now) (a .key .now) (a .hash64) (a .n) (search needs)
     (λ e. c .if2 .taken (e ∙ sym (b .pre .1)))
 
 key-of-requires : tie.Need-key-of-requires
@@ -46,7 +46,7 @@ same-bytes-requires c κs = search needs
 returns-3 : tie.Need-returns-3
 returns-3 c =
     let a = c .before .before .before .before .before .before .before .before .args in
-    λ count onward. full-other-key (a .s) (a .image .now) (a .key .now) (a .hash64) (a .n) count onward (search needs)
+    full-other-key (a .s) (a .image .now) (a .key .now) (a .hash64) (a .n) (search needs)
     (hashed (c .before .before .before)) (sym (compared (c .before)) ∙ not-true _ (c .if3 .taken))
 
 meta-of-requires : tie.Need-meta-of-requires
@@ -55,7 +55,7 @@ meta-of-requires c κs = search needs
 returns-4 : tie.Need-returns-4
 returns-4 c =
     let a = c .before .before .before .before .before .before .before .before .before .before .args in
-    λ count onward. full-live (a .s) (a .image .now) (a .key .now) (a .hash64) (a .n) count onward (search needs)
+    full-live (a .s) (a .image .now) (a .key .now) (a .hash64) (a .n) (search needs)
     (hashed (c .before .before .before .before .before))
     (sym (compared (c .before .before .before)) ∙ not-false _ (c .before .before .if3 .left))
     (sym (c .before .meta-of .ensures) ∙ c .if4 .taken)
@@ -63,7 +63,7 @@ returns-4 c =
 returns-5 : tie.Need-returns-5
 returns-5 c =
     let a = c .before .before .before .before .before .before .before .before .before .before .args in
-    λ count onward. full-dead (a .s) (a .image .now) (a .key .now) (a .hash64) (a .n) count onward (search needs)
+    full-dead (a .s) (a .image .now) (a .key .now) (a .hash64) (a .n) (search needs)
     (hashed (c .before .before .before .before .before))
     (sym (compared (c .before .before .before)) ∙ not-false _ (c .before .before .if3 .left))
     (λ e. c .if4 .left (c .before .meta-of .ensures ∙ e))

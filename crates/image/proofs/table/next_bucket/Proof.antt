@@ -15,7 +15,7 @@ add-result : tie.Need-add-result
 add-result c = search needs
 
 returns : tie.Need-returns
-returns c = sym (mod-eq-of-lt (c .if1 .taken))
+returns c = sym (mod-eq-of-lt (omega arith))
 
 returns-2 : tie.Need-returns-2
 returns-2 c =

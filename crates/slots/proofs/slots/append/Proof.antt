@@ -1,16 +1,17 @@
 -- `slots::slots::append` meets its contract.
 -- Assumes nothing.
 use Prim.Native.Nat.{ℕ}
-use mathlib.Core.Path.{sym, ap, _∙_}
+use mathlib.Core.Path.{sym, ap, subst, _∙_}
 use mathlib.Core.List.{List}
 use borrow.Author.Needs.{needs}
 use native.Mathlib.Omega.{arith}
 use Rattle.numbers.specs.Bytes.{put}
 use Rattle.digests.specs.Fnv.{fnv1a64}
-use Rattle.image.specs.Table.{keyOf}
+use Rattle.probing.specs.Report.{Missing}
+use Rattle.image.specs.Table.{keyOf, tableOf}
 use Rattle.image.proofs.Places.{slot-inside}
 use Rattle.slots.specs.Slots.{appended}
-use Rattle.slots.proofs.Table.Appended.{mid-new}
+use Rattle.slots.proofs.Table.Appended.{mid-new, mid-missing}
 use Rattle.slots.proofs.slots.append.Statement.{statement}
 use Rattle.slots.proofs.slots.append.Tie as tie
 
@@ -37,7 +38,8 @@ index-slot-requires c κs =
     let n = a .s .«slot_highwater» in
     let made = c .before .before .before .copy-to .ensures ∙ ap (λ (at : ℕ). put (a .image .now) at (a .«record» .now)) (c .before .before .before .before .before .slot-at .ensures) in
     let key = ap (λ (i : List ℕ). keyOf l i n) made ∙ mid-new (a .s) (a .image .now) (b .pre .0) (b .pre .1 .0) (a .«record» .now) (b .pre .1 .1 .0) .key in
-    (search needs, (search needs, b .pre .1 .1 .1 ∙ ap fnv1a64 (sym key)))
+    let none = mid-missing (a .s) (a .image .now) (b .pre .0) (b .pre .1 .0) (a .«record» .now) (b .pre .1 .1 .0) _ (b .pre .1 .1 .1 .1) in
+    (search needs, (search needs, (b .pre .1 .1 .1 .0 ∙ ap fnv1a64 (sym key), subst (λ (i : List ℕ). Missing (tableOf (a .s) i) (keyOf l i n)) (sym made) (rw (mid-new (a .s) (a .image .now) (b .pre .0) (b .pre .1 .0) (a .«record» .now) (b .pre .1 .1 .0) .key) none))))
 
 same-length : tie.Need-same-length
 same-length c = search needs

@@ -1,7 +1,7 @@
 -- `slots::slots::index_live` meets its contract.
 -- Assumes nothing.
 use borrow.Author.Needs.{needs}
-use mathlib.Core.Path.{refl, ap, _∙_}
+use mathlib.Core.Path.{refl, sym, ap, _∙_}
 use borrow.Author.Tests.{eq-eqb, ne-eqb}
 use Rattle.digests.specs.Fnv.{fnv1a64}
 use Rattle.slots.proofs.slots.index_live.Statement.{statement}
@@ -18,7 +18,9 @@ fnv1a64-of-requires c κs = search needs
 
 index-slot-requires : tie.Need-index-slot-requires
 index-slot-requires c κs =
-    (search needs, (search needs, c .before .fnv1a64-of .ensures ∙ ap fnv1a64 (c .before .before .key-of .ensures)))
+    let none = c .before .before .before .before .before .before .before .before .pre .1 .1 in
+    let alive = sym (c .before .before .before .before .before .meta-of .ensures) ∙ c .before .before .before .before .if1 .taken in
+    (search needs, (search needs, (c .before .fnv1a64-of .ensures ∙ ap fnv1a64 (c .before .before .key-of .ensures), none alive)))
 
 same-length : tie.Need-same-length
 same-length c = search needs

@@ -8,39 +8,43 @@ use mathlib.Core.List.{List}
 use lib.ListN.{length}
 use Rattle.digests.specs.Fnv.{fnv1a64}
 use Rattle.probing.specs.Change.{place}
+use Rattle.image.specs.Told.{reportOf}
 use Rattle.image.specs.Table.{bucketAt, keyOf, tableOf}
 use Rattle.image.proofs.Places.{bucket-inside}
-use Rattle.slots.proofs.Table.Place.{place-by-hash}
-use Rattle.slots.proofs.Table.Indexed.{bucket-below, indexes}
+use Rattle.slots.proofs.Table.Indexed.{reported-place, bucket-below, indexes}
 use Rattle.slots.proofs.slots.index_slot.Statement.{statement}
 use Rattle.slots.proofs.slots.index_slot.Tie as tie
 
 -- where the function began
-abbrev start : tie.After-place-of → tie.Start
-start c = c .before .before .before
+abbrev start : tie.After-free-bucket → tie.Start
+start c = c .before .before .before .before .before
 
 -- the key that the slot has
-abbrev key : tie.After-place-of → List ℕ
-key c = keyOf (start c .args .s .layout) (start c .args .image .now) (start c .args .n)
-
-hashed : (c : tie.After-place-of) → start c .args .hash ≡ fnv1a64 (key c)
-hashed c = start c .pre .1 .1
+abbrev key : tie.Start → List ℕ
+key b = keyOf (b .args .s .layout) (b .args .image .now) (b .args .n)
 
 -- the bucket is the key's place
-found : (c : tie.After-place-of) → c .place-of .result ≡ place (tableOf (start c .args .s) (start c .args .image .now)) (key c)
+found : (c : tie.After-free-bucket) → c .free-bucket .result ≡ place (tableOf (start c .args .s) (start c .args .image .now)) (key (start c))
 found c =
     let a = start c .args in
-    place-by-hash (a .s) (a .image .now) (key c) (a .hash) (c .place-of .result) (hashed c) (c .place-of .ensures)
+    let told = c .before .probe-hashed .ensures ∙ ap (reportOf (a .s) (a .image .now)) (c .before .before .key-of .ensures) in
+    c .free-bucket .ensures ∙ reported-place (a .s) (a .image .now) (key (start c)) _ told (start c .pre .1 .1 .1)
 
-inside : (c : tie.After-place-of) → bucketAt (start c .args .s .layout) (c .place-of .result) + 16 ≤ length (start c .args .image .now)
+inside : (c : tie.After-free-bucket) → bucketAt (start c .args .s .layout) (c .free-bucket .result) + 16 ≤ length (start c .args .image .now)
 inside c =
     let a = start c .args in
     let pre = start c .pre in
     subst (λ (b : ℕ). bucketAt (a .s .layout) b + 16 ≤ length (a .image .now)) (sym (found c))
     (bucket-inside (a .s .layout) (a .image .now) (pre .0 .laid) _ (bucket-below (a .s) (a .image .now) (pre .0) (a .n) (pre .1 .0)))
 
-place-of-requires : tie.Need-place-of-requires
-place-of-requires c κs = search needs
+key-of-requires : tie.Need-key-of-requires
+key-of-requires c κs = search needs
+
+probe-hashed-requires : tie.Need-probe-hashed-requires
+probe-hashed-requires c κs = let b = c .before .before .before in (search needs, b .pre .1 .1 .0 ∙ ap fnv1a64 (sym (c .key-of .ensures)))
+
+free-bucket-requires : tie.Need-free-bucket-requires
+free-bucket-requires c κs = search needs
 
 bucket-at-requires : tie.Need-bucket-at-requires
 bucket-at-requires c κs = omega (arith, inside c)
@@ -70,13 +74,15 @@ returns c =
     let a = start b .args in
     let pre = start b .pre in
     let there = bucket .bucket-at .ensures ∙ ap (bucketAt (a .s .layout)) (found b) in
-    indexes (a .s) (a .image .now) (pre .0) (a .n) (pre .1 .0) there (hashed b) (first .put-u64 .ensures) (second .put-u642 .ensures)
+    indexes (a .s) (a .image .now) (pre .0) (a .n) (pre .1 .0) there (pre .1 .1 .0) (first .put-u64 .ensures) (second .put-u642 .ensures)
 
 pub index-slot-spec : {M : Type 1} → statement M
 index-slot-spec =
     tie.close
     (tie.spec
-    place-of-requires
+    key-of-requires
+    probe-hashed-requires
+    free-bucket-requires
     bucket-at-requires
     put-u64-requires
     add-put-u64

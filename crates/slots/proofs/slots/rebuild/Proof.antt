@@ -9,7 +9,7 @@ use Prim.Native.Nat.{ℕ, _-_, _≤_}
 use lib.ListN.{length}
 use Rattle.header.specs.Shaped.{Shaped}
 use Rattle.slots.specs.Slots.{rebuiltTo, rebuilt}
-use Rattle.slots.proofs.Table.Rebuilt.{rebuilt-more}
+use Rattle.slots.proofs.Table.Rebuilt.{rebuilt-more, rebuilt-missing}
 use Rattle.slots.proofs.slots.rebuild.Statement.{statement}
 use Rattle.slots.proofs.slots.rebuild.Tie as tie
 
@@ -31,7 +31,13 @@ loop-holds : tie.Need-loop-holds Inv-loop μ-loop
 loop-holds c = (omega arith, refl, λ was fit e. e)
 
 index-live-requires : tie.Need-index-live-requires Inv-loop μ-loop
-index-live-requires c κs = search needs
+unfolding rebuiltTo
+index-live-requires c κs =
+    let b = c .before .before .before .before .before .before .before .before .before in
+    let l = c .before .before .loop in
+    let was = b .args .image .now in
+    let begun = c .before .before .before .before .before .clear .ensures in
+    (search needs, (search needs, rebuilt-missing (b .args .s) was (b .pre .0) (b .pre .1) (l .n) (l .image) (omega arith) (l .inv .2 was (b .pre .0) begun)))
 
 add-n : tie.Need-add-n Inv-loop μ-loop
 add-n c = search needs
@@ -57,7 +63,7 @@ returns c =
     let b = c .before .before .before .before .before .before .before .before in
     let l = c .before .loop in
     let all : l .n ≡ b .args .s .«slot_highwater» = omega arith in
-    l .inv .2 (b .args .image .now) (b .pre) (c .before .before .before .before .clear .ensures) ∙ ap (rebuiltTo (b .args .s) (b .args .image .now)) all
+    l .inv .2 (b .args .image .now) (b .pre .0) (c .before .before .before .before .clear .ensures) ∙ ap (rebuiltTo (b .args .s) (b .args .image .now)) all
 
 pub rebuild-spec : {M : Type 1} → statement M
 rebuild-spec =
