@@ -1,7 +1,9 @@
 //! Keys, batches and images to measure on.
 
+use std::ops::Range;
+
 use crate::ordinary::commit::Plan;
-use crate::ordinary::header::Header;
+use crate::ordinary::header::{set_buckets, Header};
 use crate::ordinary::layout::{put_u64, Layout, Options, KEY_AT};
 use crate::sides::begun_image;
 
@@ -46,7 +48,7 @@ fn serial(number: usize) -> Vec<u8> {
     format!("CM{line}-{week:04}-{sensor:03}").into_bytes()
 }
 
-fn serials(numbers: std::ops::Range<usize>) -> Vec<Vec<u8>> {
+fn serials(numbers: Range<usize>) -> Vec<Vec<u8>> {
     numbers.map(serial).collect()
 }
 
@@ -70,10 +72,16 @@ fn new_keys(keys: Keys, above: usize, count: usize) -> Vec<Vec<u8>> {
     made
 }
 
-pub fn put_record(layout: &Layout, key: &[u8], revision: u64) -> Vec<u8> {
+/// All zero but for its key.
+pub fn delete_record(layout: &Layout, key: &[u8]) -> Vec<u8> {
     let mut record = vec![0; layout.slot_size];
-    put_u64(&mut record, 0, 1);
     record[KEY_AT..KEY_AT + key.len()].copy_from_slice(key);
+    record
+}
+
+pub fn put_record(layout: &Layout, key: &[u8], revision: u64) -> Vec<u8> {
+    let mut record = delete_record(layout, key);
+    put_u64(&mut record, 0, 1);
     put_u64(&mut record, layout.revision_at(), revision);
     let index_at = layout.index_at();
     record[index_at..index_at + layout.index_size].fill(b'+' ^ revision as u8);
@@ -87,38 +95,67 @@ fn puts(layout: &Layout, keys: &[Vec<u8>]) -> Vec<u8> {
         .collect()
 }
 
-/// An image and a batch of new keys for it.
-pub struct Case {
-    pub options: Options,
-    pub image: Vec<u8>,
-    pub batch: Vec<u8>,
+/// The slots and buckets of an image, and how many keys are live in it.
+pub struct Shape {
+    pub slot_capacity: u64,
+    pub bucket_count: usize,
+    pub live: usize,
 }
 
-impl Case {
-    /// An image of so many slots that holds so many serials, and a batch of count new keys.
-    pub fn of(slot_capacity: u64, live: usize, ordered: bool, keys: Keys, count: usize) -> Case {
+impl std::fmt::Display for Shape {
+    fn fmt(&self, out: &mut std::fmt::Formatter) -> std::fmt::Result {
+        write!(
+            out,
+            "slot_capacity {}, {} buckets, {} live keys",
+            self.slot_capacity, self.bucket_count, self.live
+        )
+    }
+}
+
+/// An image that holds the serials of a range.
+pub struct Image {
+    pub options: Options,
+    pub bytes: Vec<u8>,
+    layout: Layout,
+    live: Range<usize>,
+}
+
+impl Image {
+    pub fn of(shape: &Shape, ordered: bool) -> Image {
         let options = Options {
             key_size: 12,
             index_size: 20,
-            slot_capacity,
+            slot_capacity: shape.slot_capacity,
             user_version: 1,
             ordered: u64::from(ordered),
             role: LOCK_HELD,
         };
-        let first = 2_300_000;
-        let layout = Layout::of(&options);
-        let mut image = begun_image(&options);
-        load(
-            &mut image,
-            &options,
-            &puts(&layout, &serials(first..first + live)),
-        );
-        let batch = puts(&layout, &new_keys(keys, first + live, count));
-        Case {
+        let layout = Layout::with(&options, shape.slot_capacity as usize, shape.bucket_count);
+        let live = 2_300_000..2_300_000 + shape.live;
+        let mut bytes = begun_image(&options);
+        set_buckets(&mut bytes, &layout);
+        load(&mut bytes, &options, &puts(&layout, &serials(live.clone())));
+        Image {
             options,
-            image,
-            batch,
+            bytes,
+            layout,
+            live,
         }
+    }
+
+    /// A batch of count new keys.
+    pub fn new_keys(&self, keys: Keys, count: usize) -> Vec<u8> {
+        puts(&self.layout, &new_keys(keys, self.live.end, count))
+    }
+
+    /// A batch that deletes count of the live keys, from anywhere among them.
+    pub fn deletes(&self, count: usize) -> Vec<u8> {
+        let mut keys = serials(self.live.clone());
+        Random(count as u64).shuffle(&mut keys);
+        keys[..count]
+            .iter()
+            .flat_map(|key| delete_record(&self.layout, key))
+            .collect()
     }
 }
 

@@ -7,16 +7,32 @@ mod same;
 mod sides;
 mod table;
 
-use cases::{Case, Keys};
-use measure::{measure, Measured};
+use cases::{Image, Keys, Shape};
+use measure::{less, measure, Measured};
 use ordinary::commit::BATCH_LIMIT;
 use ordinary::layout::CAPACITY_LIMIT;
 use table::{heading, row, rows_by_size, Reading};
 
 const SIZES: [usize; 3] = [64, 256, BATCH_LIMIT];
-const SLOT_CAPACITY: u64 = 4096;
-const LIVE: usize = 1000;
-const LARGE_LIVE: usize = 524_288;
+
+const SMALL: Shape = Shape {
+    slot_capacity: 4096,
+    bucket_count: 8192,
+    live: 1000,
+};
+
+/// A partner's, since create gives at least two buckets for each slot; with room for a batch of new keys.
+const HALF_FULL: Shape = Shape {
+    slot_capacity: 5120,
+    bucket_count: 8192,
+    live: 4096,
+};
+
+const LARGE: Shape = Shape {
+    slot_capacity: CAPACITY_LIMIT,
+    bucket_count: 2_097_152,
+    live: 524_288,
+};
 
 const KINDS: [(&str, bool, Keys); 4] = [
     ("unordered, serials rising", false, Keys::SerialsRising),
@@ -49,9 +65,10 @@ const BRIEF: Rounds = Rounds {
 };
 
 fn by_size(ordered: bool, keys: Keys, rounds: usize) -> Result<Vec<(usize, Measured)>, String> {
+    let image = Image::of(&SMALL, ordered);
     let of_size = |count| {
-        let case = Case::of(SLOT_CAPACITY, LIVE, ordered, keys, count);
-        Ok((count, measure(&case, rounds)?))
+        let batch = image.new_keys(keys, count);
+        Ok((count, measure(&image, &batch, rounds)?))
     };
     SIZES.iter().copied().map(of_size).collect()
 }
@@ -61,9 +78,7 @@ fn small_image(rounds: usize) -> Result<(), String> {
     for (_, ordered, keys) in KINDS {
         by_kind.push(by_size(ordered, keys, rounds)?);
     }
-    println!(
-        "slot_capacity {SLOT_CAPACITY}, {LIVE} live keys; median (quartiles) of {rounds} rounds."
-    );
+    println!("{SMALL}; median (quartiles) of {rounds} rounds.");
     println!("growth: the time of a record in the largest batch over that in the smallest.");
     for (name, taken_off) in READINGS {
         println!("\nNanoseconds per record of a commit of new keys, less {name}");
@@ -92,12 +107,32 @@ fn small_image(rounds: usize) -> Result<(), String> {
     Ok(())
 }
 
+/// The largest batches, where half of the buckets are live. The deletes leave a TOMBSTONE in an eighth of the buckets; the
+/// index is rebuilt where more than a quarter have one, so no rebuild is in these times.
+fn half_full_image(rounds: usize) -> Result<(), String> {
+    let image = Image::of(&HALF_FULL, false);
+    let new_keys = image.new_keys(Keys::SerialsRising, BATCH_LIMIT);
+    let batches = [
+        ("new keys", new_keys),
+        ("deletes", image.deletes(BATCH_LIMIT)),
+    ];
+    println!("\nNanoseconds per record of a commit where half of the buckets are live, less an empty commit");
+    println!("{HALF_FULL}; {rounds} rounds.");
+    heading("unordered, serials", "records");
+    for (name, batch) in batches {
+        let measured = measure(&image, &batch, rounds)?;
+        let times = less(&measured.commit, &measured.empty_commit, BATCH_LIMIT);
+        row(name, &BATCH_LIMIT.to_string(), &times, 1.0);
+    }
+    Ok(())
+}
+
 fn large_image(rounds: usize) -> Result<(), String> {
-    let keys = Keys::SerialsRising;
-    let case = Case::of(CAPACITY_LIMIT, LARGE_LIVE, false, keys, BATCH_LIMIT);
-    let measured = measure(&case, rounds)?;
+    let image = Image::of(&LARGE, false);
+    let batch = image.new_keys(Keys::SerialsRising, BATCH_LIMIT);
+    let measured = measure(&image, &batch, rounds)?;
     println!("\nMilliseconds on the largest image");
-    println!("slot_capacity {CAPACITY_LIMIT}, {LARGE_LIVE} live keys; {rounds} rounds.");
+    println!("{LARGE}; {rounds} rounds.");
     heading("unordered, serials rising", "records");
     row("full check", "", &measured.full_check, 1e6);
     row("commit", "0", &measured.empty_commit, 1e6);
@@ -114,6 +149,7 @@ fn run(rounds: &Rounds) -> Result<(), String> {
     let commits = same::try_random_batches(rounds.random_images)?;
     println!("Both gave the same answers and bytes in {commits} random commits, and do so in every one that is timed.");
     small_image(rounds.small)?;
+    half_full_image(rounds.small)?;
     large_image(rounds.large)
 }
 

@@ -2,7 +2,7 @@
 
 use std::time::Instant;
 
-use crate::cases::Case;
+use crate::cases::Image;
 use crate::sides::{Side, SIDES};
 
 /// For each side, the library first, the nanoseconds of every round.
@@ -67,17 +67,17 @@ fn by_turns(
 }
 
 /// Full check, empty commit and commit of the batch, by both sides, so many rounds.
-pub fn measure(case: &Case, rounds: usize) -> Result<Measured, String> {
-    let (image, options) = (&case.image, &case.options);
-    let mut copies = [image.clone(), image.clone()];
+pub fn measure(image: &Image, batch: &[u8], rounds: usize) -> Result<Measured, String> {
+    let Image { options, bytes, .. } = image;
+    let mut copies = [bytes.clone(), bytes.clone()];
     let mut measured = Measured::default();
     let full_check = |side: &Side, copy: &mut [u8]| (side.full_check)(copy, options);
     let empty_commit = |side: &Side, copy: &mut [u8]| (side.commit)(copy, options, &[]);
-    let commit = |side: &Side, copy: &mut [u8]| (side.commit)(copy, options, &case.batch);
+    let commit = |side: &Side, copy: &mut [u8]| (side.commit)(copy, options, batch);
     for _ in 0..rounds {
-        by_turns(image, &mut copies, &mut measured.full_check, full_check)?;
-        by_turns(image, &mut copies, &mut measured.empty_commit, empty_commit)?;
-        by_turns(image, &mut copies, &mut measured.commit, commit)?;
+        by_turns(bytes, &mut copies, &mut measured.full_check, full_check)?;
+        by_turns(bytes, &mut copies, &mut measured.empty_commit, empty_commit)?;
+        by_turns(bytes, &mut copies, &mut measured.commit, commit)?;
     }
     Ok(measured)
 }

@@ -1,8 +1,8 @@
 //! That both sides are the same function: random batches, with keys that come again, deletes, puts on live keys and
 //! malformed records, on small images that fill up, are rebuilt and are damaged.
 
-use crate::cases::{put_record, Random, LOCK_HELD};
-use crate::ordinary::layout::{Layout, Options, KEY_AT};
+use crate::cases::{delete_record, put_record, Random, LOCK_HELD};
+use crate::ordinary::layout::{Layout, Options};
 use crate::sides::{begun_image, SIDES};
 
 const COMMITS: usize = 60;
@@ -32,8 +32,7 @@ fn batch(random: &mut Random, layout: &Layout, near: usize) -> Vec<u8> {
         let key = key(random, layout, near);
         let mut record = put_record(layout, &key, random.next());
         if random.below(3) == 0 {
-            record.fill(0);
-            record[KEY_AT..KEY_AT + key.len()].copy_from_slice(&key);
+            record = delete_record(layout, &key);
         }
         if random.below(200) == 0 {
             record[random.below(layout.slot_size)] ^= 4;

@@ -69,6 +69,19 @@ fn header_crc(image: &[u8]) -> u32 {
     crc32c(&header)
 }
 
+/// Writes the CRC.
+fn seal(image: &mut [u8]) {
+    let crc = header_crc(image);
+    image[HEADER_CRC32C_AT..HEADER_CRC32C_AT + 4].copy_from_slice(&crc.to_le_bytes());
+}
+
+/// Gives an image that holds no key the layout's number of buckets, which may be another one than create gives it.
+pub fn set_buckets(image: &mut Vec<u8>, layout: &Layout) {
+    image.resize(layout.total_size, 0);
+    put_u64(image, BUCKET_COUNT_AT, layout.bucket_count as u64);
+    seal(image);
+}
+
 /// Tests 3 to 7: what the header says by itself.
 fn written_test(image: &[u8], options: &Options) -> Result<(), u32> {
     let known_format = image.starts_with(b"SLC1")
@@ -170,7 +183,6 @@ impl Header {
         put_u64(image, BUCKET_USED_AT, self.live_count as u64);
         put_u64(image, BUCKET_TOMBSTONES_AT, self.bucket_tombstones as u64);
         put_u64(image, GENERATION_AT, self.generation + 2);
-        let crc = header_crc(image);
-        image[HEADER_CRC32C_AT..HEADER_CRC32C_AT + 4].copy_from_slice(&crc.to_le_bytes());
+        seal(image);
     }
 }
