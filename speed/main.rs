@@ -1,7 +1,9 @@
-//! The library's commit beside an ordinary one in Rust: first that they are the same function, then their times.
+//! The library's commit beside an ordinary one in Rust, or beside that of another revision: first that they are the same
+//! function, then their times.
 
 mod cases;
 mod measure;
+#[cfg_attr(beside, allow(dead_code))] // only images are filled by it then
 mod ordinary;
 mod same;
 mod sides;

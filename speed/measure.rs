@@ -3,7 +3,7 @@
 use std::time::Instant;
 
 use crate::cases::Image;
-use crate::sides::{Side, SIDES};
+use crate::sides::{Side, BESIDE, SIDES};
 
 /// For each side, the library first, the nanoseconds of every round.
 pub type Times = [Vec<f64>; 2];
@@ -59,9 +59,9 @@ fn by_turns(
         }
     }
     if copies[0] != copies[1] {
-        return Err(
-            "a call that is measured leaves other bytes by the library than by Rust".to_string(),
-        );
+        return Err(format!(
+            "a call that is measured leaves other bytes by the library than by {BESIDE}"
+        ));
     }
     Ok(())
 }
@@ -98,6 +98,6 @@ pub fn ratio(times: &Times) -> Spread {
         times[0]
             .iter()
             .zip(&times[1])
-            .map(|(library, rust)| library / rust),
+            .map(|(library, other)| library / other),
     )
 }

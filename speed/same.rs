@@ -3,7 +3,7 @@
 
 use crate::cases::{delete_record, put_record, Random, LOCK_HELD};
 use crate::ordinary::layout::{Layout, Options};
-use crate::sides::{begun_image, SIDES};
+use crate::sides::{begun_image, BESIDE, SIDES};
 
 const COMMITS: usize = 60;
 const LARGEST_BATCH: usize = 12;
@@ -49,11 +49,11 @@ fn commit_by_both(image: &[u8], options: &Options, batch: &[u8]) -> Result<Vec<u
         let answer = (side.commit)(&mut copy, options, batch);
         (answer, (side.full_check)(&copy, options), copy)
     });
-    let (library, ordinary) = (results.next().unwrap(), results.next().unwrap());
-    if library != ordinary {
+    let (library, other) = (results.next().unwrap(), results.next().unwrap());
+    if library != other {
         return Err(format!(
-            "commit and full check answer {} and {} by the library, {} and {} by Rust, or the images differ",
-            library.0, library.1, ordinary.0, ordinary.1
+            "commit and full check answer {} and {} by the library, {} and {} by {BESIDE}, or the images differ",
+            library.0, library.1, other.0, other.1
         ));
     }
     Ok(library.2)

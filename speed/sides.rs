@@ -1,6 +1,6 @@
-//! The two implementations that are measured: the library, by its calls for C, and the ordinary one.
+//! The two implementations that are measured: the library, by its calls for C, and the ordinary one; with `--cfg beside`, in
+//! place of the ordinary one, the library of another revision.
 
-use crate::ordinary;
 use crate::ordinary::layout::{Layout, Options};
 
 pub struct Side {
@@ -9,16 +9,10 @@ pub struct Side {
 }
 
 /// The library first. They are called through pointers, so that neither is compiled for the options of a row.
-pub const SIDES: [Side; 2] = [
-    Side {
-        commit: library_commit,
-        full_check: library_full_check,
-    },
-    Side {
-        commit: ordinary::commit::commit,
-        full_check: ordinary::check::full_check,
-    },
-];
+pub const SIDES: [Side; 2] = [LIBRARY, OTHER];
+
+/// What tools/speed calls the other side.
+pub const BESIDE: &str = env!("BESIDE");
 
 /// Declares calls of slc1.h that are lent an image: its pointer and length, the options as six numbers, and what else a
 /// call takes.
@@ -40,6 +34,13 @@ calls! {
     slc1_commit(image: *mut u8, batch: *const u8, batch_length: usize);
 }
 
+// Of the library of another revision, to whose calls tools/speed gives these names.
+#[cfg(beside)]
+calls! {
+    beside_full_check(image: *const u8);
+    beside_commit(image: *mut u8, batch: *const u8, batch_length: usize);
+}
+
 /// Makes such a call.
 macro_rules! call {
     ($name:ident, $image:expr, $length:expr, $options:expr $(, $more:expr)*) => {
@@ -52,20 +53,35 @@ macro_rules! call {
     };
 }
 
-fn library_commit(image: &mut [u8], options: &Options, batch: &[u8]) -> u32 {
-    call!(
-        slc1_commit,
-        image.as_mut_ptr(),
-        image.len(),
-        options,
-        batch.as_ptr(),
-        batch.len()
-    )
+/// The side that two such calls make.
+macro_rules! side {
+    ($commit:ident, $full_check:ident) => {
+        Side {
+            commit: |image, options, batch| {
+                call!(
+                    $commit,
+                    image.as_mut_ptr(),
+                    image.len(),
+                    options,
+                    batch.as_ptr(),
+                    batch.len()
+                )
+            },
+            full_check: |image, options| call!($full_check, image.as_ptr(), image.len(), options),
+        }
+    };
 }
 
-fn library_full_check(image: &[u8], options: &Options) -> u32 {
-    call!(slc1_full_check, image.as_ptr(), image.len(), options)
-}
+const LIBRARY: Side = side!(slc1_commit, slc1_full_check);
+
+#[cfg(beside)]
+const OTHER: Side = side!(beside_commit, beside_full_check);
+
+#[cfg(not(beside))]
+const OTHER: Side = Side {
+    commit: crate::ordinary::commit::commit,
+    full_check: crate::ordinary::check::full_check,
+};
 
 /// A fresh image, DIRTY, by the library.
 pub fn begun_image(options: &Options) -> Vec<u8> {
