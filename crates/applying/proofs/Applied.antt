@@ -2,23 +2,33 @@
 -- Assumes nothing.
 use Prim.Native.Nat.{ℕ, zero, suc, _+_, _≤_, _<_}
 use mathlib.Core.Path.{_≡_, refl, ap, ap₂, _∙_}
-use mathlib.Core.Bool.{Bool}
+use mathlib.Core.Bool.{Bool, true, false}
 use mathlib.Core.List.{List}
 use native.Mathlib.Nat.{le-refl}
 use native.Mathlib.Omega.{arith}
+use lib.Dec.{eqb}
 use lib.ListN.{getD}
+use borrow.Author.Tests.{not-false}
+use Rattle.probing.specs.Report.{Missing, Hint}
+use Rattle.probing.proofs.Counting.{all-at}
+use Rattle.header.specs.declared.shape.Layout.{Layout}
 use Rattle.header.specs.declared.shape.Shape.{Shape}
 use Rattle.header.specs.Shaped.{Shaped}
-use Rattle.image.specs.Lookup.{isLive}
-use Rattle.batch.specs.Batch.{recordCount}
-use Rattle.batch.specs.Notes.{newBy}
-use Rattle.header.specs.Counters.{withSlots}
+use Rattle.header.specs.Counters.{withCounters, withSlots}
+use Rattle.image.specs.Table.{tableOf}
+use Rattle.image.specs.Lookup.{probeOf, isLive}
+use Rattle.image.specs.Told.{reportOf}
+use Rattle.image.proofs.Looked.{not-live}
+use Rattle.slots.proofs.Table.Indexed.{reported-place}
+use Rattle.batch.specs.Batch.{recordCount, recordAt, metaIn, recordKey}
+use Rattle.batch.specs.NewKeys.{newCount, newAt}
+use Rattle.batch.specs.Notes.{newBy, someDelete}
 use Rattle.soundness.specs.Apply.{acted, actedTo, afterLive, afterNew, settled, committed}
-use Rattle.applying.specs.Prepared.{Prepared, oneAppended, appendedTo, AllMissing}
+use Rattle.applying.specs.Prepared.{keptPlace, notedPlace, Prepared, oneAppended, appendedTo, AllMissing, AllHinted}
 use Rattle.batch.proofs.Turning.{turn-new}
-use Rattle.batch.proofs.NewRanks.{new-at}
+use Rattle.batch.proofs.NewRanks.{is-new, Ranked, new-at}
 use Rattle.soundness.proofs.Live.{Kept, live-kept}
-use Rattle.soundness.proofs.Grown.{Ready, may-commit, Grown, new-grown, new-missing}
+use Rattle.soundness.proofs.Grown.{Ready, may-commit, Grown, new-grown, new-missing, new-hinted}
 
 -- tests of the records that agree below n have the same ones act
 acted-same : (s : Shape) (p q : ℕ → Bool) (image batch : List ℕ) (n : ℕ) → ((i : ℕ) → i < n → p i ≡ q i) → actedTo s p image batch n ≡ actedTo s q image batch n
@@ -26,7 +36,12 @@ unfolding actedTo acted
 acted-same s p q image batch zero e = refl
 acted-same s p q image batch (suc n) e = rw (e n (omega arith), acted-same s p q image batch n (λ i l. e i (omega arith)))
 
-module _ (s : Shape) (image batch hashes turns order : List ℕ) (count : ℕ) (ready : Prepared s image batch hashes turns order count) where
+-- where no record is a delete, each is a put
+all-puts : (l : Layout) (batch : List ℕ) → someDelete l batch ≡ false → (i : ℕ) → i < recordCount l batch → eqb (metaIn (recordAt l batch i)) 1 ≡ true
+unfolding someDelete
+all-puts l batch e = all-at (recordCount l batch) _ (not-false _ e)
+
+module _ (s : Shape) (image batch hashes turns places order : List ℕ) (count : ℕ) (ready : Prepared s image batch hashes turns places order count) where
   -- the order is of records
   pub order-below : (k : ℕ) → k < count → getD order k 0 < recordCount (s .layout) batch
   order-below k l = rw (ready .ordered .each k l) (new-at (s .layout) (isLive s image) batch k (omega (arith, ready .counted)) .inside)
@@ -56,6 +71,35 @@ module _ (s : Shape) (image batch hashes turns order : List ℕ) (count : ℕ) (
     pub all-missing : AllMissing s batch order (afterLive s image batch (recordCount (s .layout) batch)) count
     all-missing k l =
         rw (in-order k (omega arith), ready .ordered .each k l) (new-missing s image batch may k (omega (arith, ready .counted)))
+
+    -- the bucket noted for the new key of rank k is a hint when its turn comes
+    module _ (k : ℕ) (l : k < newCount (s .layout) (isLive s image) batch) where
+      abbrev i : ℕ
+      i = newAt (s .layout) (isLive s image) batch k
+
+      abbrev key : List ℕ
+      key = recordKey (s .layout) batch i
+
+      new : Ranked (s .layout) (isLive s image) batch k i
+      new = new-at (s .layout) (isLive s image) batch k l
+
+      missing : Missing (tableOf s image) key
+      unfolding probeOf
+      missing = not-live s image (may .formed .sound) key (is-new (s .layout) (isLive s image) batch i (new .new) .absent)
+
+      noted-hint : Hint (tableOf (withSlots s (s .«slot_highwater» + k)) (afterNew s image batch k)) key (notedPlace s image batch i)
+      unfolding notedPlace tableOf withSlots withCounters
+      noted-hint = rw (new .new) (go (someDelete (s .layout) batch) refl)
+        where
+          go : (deletes : Bool) → someDelete (s .layout) batch ≡ deletes
+              → Hint (tableOf (withSlots s (s .«slot_highwater» + k)) (afterNew s image batch k)) key (keptPlace (s .layout .«bucket_count») (reportOf s image key) deletes)
+          go true e = λ inside free. absurd (omega arith)
+          go false e = rw (reported-place s image key _ refl missing) (new-hinted s image batch may (all-puts (s .layout) batch e) k l key)
+
+    pub all-hinted : AllHinted s batch places order (afterLive s image batch (recordCount (s .layout) batch)) count
+    all-hinted k l =
+        let below : k < newCount (s .layout) (isLive s image) batch = omega (arith, ready .counted) in
+        rw (in-order k (omega arith), ready .ordered .each k l, ready .placed .each _ (new k below .inside)) (noted-hint k below)
 
   pub applied : (b : List ℕ) → b ≡ afterNew s image batch count → (t : Shape) → t ≡ withSlots s (s .«slot_highwater» + count) → settled t b ≡ committed s image batch
   unfolding committed

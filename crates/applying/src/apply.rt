@@ -3,7 +3,7 @@ ghost use mathlib.Core.Path.{_≡_};
 ghost use Prim.Native.Nat.{ℕ, _+_, _^_, _≤_, _<_};
 ghost use lib.ListN.{length, getD};
 ghost use Rattle.digests.specs.Fnv.{fnv1a64};
-ghost use Rattle.probing.specs.Report.{Missing};
+ghost use Rattle.probing.specs.Report.{Missing, Hint};
 ghost use Rattle.probing.specs.Sound.{Sound};
 ghost use Rattle.header.specs.Fields.{value, generation};
 ghost use Rattle.header.specs.Shaped.{LaidOut, Shaped};
@@ -13,7 +13,7 @@ ghost use Rattle.header.specs.Counters.{withCounters, withSlots};
 ghost use Rattle.batch.specs.Batch.{recordCount, keyIn, recordKey};
 ghost use Rattle.batch.specs.Notes.{Noted, hashOf, Turned, newBy};
 ghost use Rattle.soundness.specs.Apply.{onSlot, onLive, acted, actedTo, tidied, settled, committed};
-ghost use Rattle.applying.specs.Prepared.{Prepared, oneAppended, appendedTo, AllMissing};
+ghost use Rattle.applying.specs.Prepared.{Prepared, oneAppended, appendedTo, AllMissing, AllHinted};
 use crate::counts::count_live;
 use crate::counts::count_tombstones;
 use batch::batch::key_in;
@@ -111,13 +111,23 @@ fn with_slots(s: Shape, highwater: usize) -> Shape
     with_counters(s, highwater, s.live_count, s.bucket_tombstones)
 }
 
-// Record k of the order, whose key is not there, becomes the slot that k others come before.
-fn append_one(image: &mut [u8], s: Shape, batch: &[u8], hashes: &[u64], order: &[u16], k: usize)
+// Record k of the order, whose key is not there, becomes the slot that k others come before; the bucket noted for it is a hint.
+fn append_one(
+    image: &mut [u8],
+    s: Shape,
+    batch: &[u8],
+    hashes: &[u64],
+    places: &[u32],
+    order: &[u16],
+    k: usize,
+)
     requires { ⌜ Shaped s (now image) ⌝ }
     requires { ⌜ Noted (hashOf (s .layout) (now batch)) (recordCount (s .layout) (now batch)) (now hashes) ⌝ }
     requires { ⌜ (k < length (now order)) × (getD (now order) k 0 < recordCount (s .layout) (now batch)) ⌝ }
+    requires { ⌜ recordCount (s .layout) (now batch) ≤ length (now places) ⌝ }
     requires { ⌜ s .«slot_highwater» + k < s .layout .«slot_capacity» ⌝ }
     requires { ⌜ Missing (tableOf (withSlots s (s .«slot_highwater» + k)) (now image)) (recordKey (s .layout) (now batch) (getD (now order) k 0)) ⌝ }
+    requires { ⌜ Hint (tableOf (withSlots s (s .«slot_highwater» + k)) (now image)) (recordKey (s .layout) (now batch) (getD (now order) k 0)) (getD (now places) (getD (now order) k 0) 0) ⌝ }
     ensures { λ r. ⌜ now (image .exit) ≡ oneAppended s (now (batch .entry)) (now (order .entry)) k (now (image .entry)) ⌝ }
 {
     let i = order[k] as usize;
@@ -126,22 +136,32 @@ fn append_one(image: &mut [u8], s: Shape, batch: &[u8], hashes: &[u64], order: &
         with_slots(s, s.slot_highwater + k),
         record(batch, s.layout, i),
         hashes[i],
+        places[i] as usize,
     );
 }
 
 // The new keys get the next slots, in their order.
-fn append_all(image: &mut [u8], s: Shape, batch: &[u8], hashes: &[u64], order: &[u16], count: usize)
+fn append_all(
+    image: &mut [u8],
+    s: Shape,
+    batch: &[u8],
+    hashes: &[u64],
+    places: &[u32],
+    order: &[u16],
+    count: usize,
+)
     requires { ⌜ Shaped s (now image) ⌝ }
     requires { ⌜ Noted (hashOf (s .layout) (now batch)) (recordCount (s .layout) (now batch)) (now hashes) ⌝ }
-    requires { ⌜ count ≤ length (now order) ⌝ }
+    requires { ⌜ (count ≤ length (now order)) × (recordCount (s .layout) (now batch) ≤ length (now places)) ⌝ }
     requires { ⌜ s .«slot_highwater» + count ≤ s .layout .«slot_capacity» ⌝ }
     requires { ⌜ ((k : ℕ) → k < count → getD (now order) k 0 < recordCount (s .layout) (now batch)) ⌝ }
     requires { ⌜ AllMissing s (now batch) (now order) (now image) count ⌝ }
+    requires { ⌜ AllHinted s (now batch) (now places) (now order) (now image) count ⌝ }
     ensures { λ r. ⌜ now (image .exit) ≡ appendedTo s (now (batch .entry)) (now (order .entry)) (now (image .entry)) count ⌝ }
 {
     let mut k = 0;
     while k < count {
-        append_one(image, s, batch, hashes, order, k);
+        append_one(image, s, batch, hashes, places, order, k);
         k += 1;
     }
 }
@@ -177,15 +197,16 @@ pub fn apply(
     batch: &[u8],
     hashes: &[u64],
     turns: &[u8],
+    places: &[u32],
     order: &[u16],
     count: usize,
 )
     requires { ⌜ Shaped s (now image) ⌝ }
     requires { ⌜ value (now image) generation + 2 < 2 ^ 64 ⌝ }
-    requires { ⌜ Prepared s (now image) (now batch) (now hashes) (now turns) (now order) count ⌝ }
+    requires { ⌜ Prepared s (now image) (now batch) (now hashes) (now turns) (now places) (now order) count ⌝ }
     ensures { λ r. ⌜ now (image .exit) ≡ committed s (now (image .entry)) (now (batch .entry)) ⌝ }
 {
     act_all(image, s, batch, hashes, turns);
-    append_all(image, s, batch, hashes, order, count);
+    append_all(image, s, batch, hashes, places, order, count);
     settle(image, with_slots(s, s.slot_highwater + count));
 }

@@ -5,6 +5,7 @@ ghost use lib.ListN.{length};
 ghost use Rattle.probing.specs.Counting.{one};
 ghost use Rattle.header.specs.Sizes.{align8 as aligned};
 ghost use Rattle.batch.specs.Batch.{SlotSized, recordCount, recordAt, metaIn, keyIn, keyPadding, revisionAndIndex, indexPadding, malformed, someMalformed, batchWrong, recordKey};
+ghost use Rattle.batch.specs.Notes.{someDelete};
 use header::shape::Layout;
 use header::sizes::align8;
 use numbers::parts::all_zero;
@@ -159,4 +160,20 @@ pub fn record_key<'a>(batch: &'a [u8], l: Layout, i: usize) -> &'a [u8]
     ensures { λ r. ⌜ now r ≡ recordKey l (now (batch .entry)) i ⌝ }
 {
     key_in(record(batch, l, i), l)
+}
+
+// Whether some record is a delete.
+pub fn some_delete(batch: &[u8], l: Layout) -> bool
+    requires { ⌜ SlotSized l ⌝ }
+    ensures { λ r. ⌜ r ≡ someDelete l (now (batch .entry)) ⌝ }
+{
+    let count = record_count(batch, l);
+    let mut i = 0;
+    while i < count {
+        if record_meta(batch, l, i) != 1 {
+            return true;
+        }
+        i += 1;
+    }
+    false
 }

@@ -29,14 +29,25 @@ fn commit_in(image: &mut [u8], s: Shape, batch: &[u8]) -> u32
         return sound;
     }
     let hashes = hash_keys(batch, s.layout);
-    let turns = take_turns(image, s, batch, &hashes);
+    let notes = take_turns(image, s, batch, &hashes);
+    let turns = notes.turns;
+    let places = notes.places;
     let order = order_new_keys(batch, s.layout, &turns);
     let records = order.records;
     let room = room_test(image, s, batch, &records, order.count);
     if room != DONE {
         return room;
     }
-    apply(image, s, batch, &hashes, &turns, &records, order.count);
+    apply(
+        image,
+        s,
+        batch,
+        &hashes,
+        &turns,
+        &places,
+        &records,
+        order.count,
+    );
     DONE
 }
 

@@ -19,7 +19,7 @@ pub record LaidOut (l : Layout) (image : List ℕ) : Type 0 where
   -- an EMPTY bucket is certain
   pub room : l .«slot_capacity» < l .«bucket_count»
   -- slot numbers, and sums of so many lookup counts, stay small
-  pub small : l .«bucket_count» ≤ 2 ^ 32
+  pub small : l .«bucket_count» < 2 ^ 32
 
 -- and by its counters
 pub record Shaped (s : Shape) (image : List ℕ) : Type 0 where

@@ -5,6 +5,7 @@ ghost use Prim.Native.Nat.{_<_};
 ghost use lib.Dec.{eqb};
 ghost use Rattle.digests.specs.Fnv.{fnv1a64};
 ghost use Rattle.probing.specs.Table.{FULL};
+ghost use Rattle.probing.specs.Report.{freeBy};
 ghost use Rattle.header.specs.Shaped.{Shaped};
 ghost use Rattle.image.specs.Table.{bucketOf};
 ghost use Rattle.image.specs.Step.{Says};
@@ -16,6 +17,7 @@ use crate::table::meta_of;
 use crate::table::next_bucket;
 use crate::table::slot_plus1_of;
 use digests::fnv::fnv1a64_of;
+use header::shape::Layout;
 use header::shape::Shape;
 use numbers::parts::same_bytes;
 
@@ -150,4 +152,14 @@ pub fn probe_for(image: &[u8], s: Shape, key: &[u8]) -> Report
     ensures { λ r. ⌜ r ≡ reportOf s (now (image .entry)) (now (key .entry)) ⌝ }
 {
     probe_hashed(image, s, key, fnv1a64_of(key))
+}
+
+// The bucket that a report leaves for a key that is not there: the first TOMBSTONE passed, else the EMPTY where it stopped.
+pub fn free_bucket(l: Layout, report: Report) -> usize
+    ensures { λ r. ⌜ r ≡ freeBy (l .«bucket_count») (report .tombstone) (report .bucket) ⌝ }
+{
+    if report.tombstone == l.bucket_count {
+        return report.bucket;
+    }
+    report.tombstone
 }

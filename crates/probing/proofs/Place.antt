@@ -86,3 +86,22 @@ module _ (t u : Table) (sameB : t .B ≡ u .B) (sameBuckets : t .bucket ≡ u .b
   pub place-same : t .hash ≡ u .hash → (k : List ℕ) → place t k ≡ place u k
   unfolding place
   place-same sameHash k = placeFrom-same (t .B) (home t k) ∙ cc
+
+-- Where what is FULL in one table is FULL in the other, the place of a key in the one is its place in the other, unless it is FULL there.
+module _ (t u : Table) (sameB : t .B ≡ u .B) (sameHash : t .hash ≡ u .hash) (k : List ℕ)
+    (full : (b : ℕ) → b < t .B → isFull (t .bucket b) ≡ true → isFull (u .bucket b) ≡ true) where
+  same-home : home t k ≡ home u k
+  same-home = cc
+
+  pub place-stays : (b : ℕ) → b < t .B → isFull (t .bucket b) ≡ false → isFull (u .bucket (place t k)) ≡ false → place u k ≡ place t k
+  place-stays b l f free =
+      let first = place-first t k b l f in
+      let inside = place-below t k first in
+      first-free-same u (home u k) (place-first u k (place t k) (omega arith) free)
+      (record {
+        distance = first .distance;
+        within = omega (arith, first .within);
+        there = first .there ∙ ap₂ (λ (h n : ℕ). (h + first .distance) % n) same-home sameB;
+        free = free;
+        way = λ i less. rw (← same-home, ← sameB) (full _ (mod-lt _ (omega arith)) (first .way i less));
+      })

@@ -116,6 +116,18 @@ module _ (t : Table) (some : 0 < t .B) (h : ℕ) where
           })
       go (inr none) = here (firstTombstone t h n) (none .0) (none .1) (either _)
 
+-- what a report leaves for a key is a bucket
+pub left-inside : (t : Table) → 0 < t .B → (k : List ℕ) → freeBy (t .B) (report t k .tombstone) (report t k .bucket) < t .B
+unfolding report
+left-inside t some k = go (first-or-none t some (home t k) (countOf (probe t k) - 1))
+  where
+    go : {p : ℕ} → First t (home t k) (countOf (probe t k) - 1) p ⊎ ((p ≡ t .B) × None t (home t k) (countOf (probe t k) - 1))
+        → freeBy (t .B) p (nth t k (countOf (probe t k) - 1)) < t .B
+    go {p} (inl f) =
+        let bucket : p < t .B = rw (f .there) (mod-lt _ some) in
+        rw (ne-eqb p (t .B) (λ e. omega arith)) bucket
+    go {p} (inr none) = rw (eq-eqb p (t .B) (none .0)) (mod-lt _ some)
+
 -- a bucket that is neither EMPTY nor a TOMBSTONE is FULL, and a TOMBSTONE is not
 neither : (x : Bucket) → (x ≡ EMPTY → ⊥) → isTombstone x ≡ false → isFull x ≡ true
 neither EMPTY taken not = absurd (taken refl)

@@ -5,8 +5,9 @@ use mathlib.Core.Bool.{true, false, cond, _&&_}
 use mathlib.Core.Path.{_≡_}
 use mathlib.Core.List.{List}
 use lib.Dec.{eqb}
-use Rattle.probing.specs.Table.{Table, isTombstone}
+use Rattle.probing.specs.Table.{Table, isTombstone, isFull}
 use Rattle.probing.specs.Probe.{Probed, absent, home, lastOf, probe, countOf}
+use Rattle.probing.specs.Change.{place}
 
 -- B is no bucket, and stands for none: bucket p, or where that is none, bucket b if it is a TOMBSTONE
 abbrev pub orTombstone : Table → ℕ → ℕ → ℕ
@@ -39,6 +40,10 @@ Missing t k = (n : ℕ) × (probe t k ≡ absent n)
 -- "the first TOMBSTONE on its probe, else the EMPTY that ends it": the bucket that a report leaves for a key that is not there
 abbrev pub freeBy : ℕ → ℕ → ℕ → ℕ
 freeBy B tombstone bucket = cond (eqb tombstone B) bucket tombstone
+
+-- a bucket noted before: it is the key's place, unless it is FULL by now; B, which is no bucket, is no hint
+abbrev pub Hint : Table → List ℕ → ℕ → Type 0
+Hint t k b = b < t .B → isFull (t .bucket b) ≡ false → place t k ≡ b
 
 -- Bucket p is the first TOMBSTONE of the n buckets from h on: it is one, and none before it is.
 pub record First (t : Table) (h n p : ℕ) : Type 0 where

@@ -6,7 +6,8 @@ ghost use lib.Dec.{eqb};
 ghost use lib.ListN.{length};
 ghost use Rattle.numbers.specs.Bytes.{part};
 ghost use Rattle.digests.specs.Fnv.{fnv1a64};
-ghost use Rattle.probing.specs.Report.{Missing, freeBy};
+ghost use Rattle.probing.specs.Change.{place};
+ghost use Rattle.probing.specs.Report.{Missing, Hint};
 ghost use Rattle.probing.specs.Sound.{Sound};
 ghost use Rattle.header.specs.Fields.{value, generation};
 ghost use Rattle.header.specs.Shaped.{LaidOut, Shaped};
@@ -19,13 +20,14 @@ use header::shape::Layout;
 use header::shape::Shape;
 use header::sizes::align8;
 use header::state::GENERATION_STEP;
-use image::probe::Report;
+use image::probe::free_bucket;
 use image::probe::probe_hashed;
 use image::table::TOMBSTONE;
 use image::table::bucket_at;
 use image::table::key_of;
 use image::table::meta_of;
 use image::table::slot_at;
+use image::table::slot_plus1_of;
 use numbers::parts::clear;
 use numbers::parts::copy_to;
 use numbers::words::put_u64;
@@ -58,43 +60,57 @@ pub fn remove(image: &mut [u8], l: Layout, n: usize, b: usize)
     put_u64(image, bucket, TOMBSTONE);
 }
 
-// The bucket that a report leaves for a key that is not there: the first TOMBSTONE passed, else the EMPTY where it stopped.
-fn free_bucket(l: Layout, report: Report) -> usize
-    ensures { λ r. ⌜ r ≡ freeBy (l .«bucket_count») (report .tombstone) (report .bucket) ⌝ }
+// The bucket for a key that is not there, which has this hash: the one noted before, unless it is FULL by now; else by the key's
+// probe.
+fn place_for(image: &[u8], s: Shape, key: &[u8], hash: u64, hint: usize) -> usize
+    requires { ⌜ Shaped s (now image) ⌝ }
+    requires { ⌜ hash ≡ fnv1a64 (now key) ⌝ }
+    requires { ⌜ Missing (tableOf s (now image)) (now key) ⌝ }
+    requires { ⌜ Hint (tableOf s (now image)) (now key) hint ⌝ }
+    ensures { λ r. ⌜ r ≡ place (tableOf s (now (image .entry))) (now (key .entry)) ⌝ }
 {
-    if report.tombstone == l.bucket_count {
-        return report.bucket;
+    if hint < s.layout.bucket_count {
+        let slot_plus1 = slot_plus1_of(image, s.layout, hint);
+        if slot_plus1 == 0 {
+            return hint;
+        }
+        if slot_plus1 == TOMBSTONE {
+            return hint;
+        }
     }
-    report.tombstone
+    free_bucket(s.layout, probe_hashed(image, s, key, hash))
 }
 
-// Puts slot n into the index by its key, which has this hash and is not there yet.
-fn index_slot(image: &mut [u8], s: Shape, n: usize, hash: u64)
+// Puts slot n into the index by its key, which has this hash and is not there yet; the bucket noted for it is a hint.
+fn index_slot(image: &mut [u8], s: Shape, n: usize, hash: u64, hint: usize)
     requires { ⌜ Shaped s (now image) ⌝ }
     requires { ⌜ n < s .layout .«slot_capacity» ⌝ }
     requires { ⌜ hash ≡ fnv1a64 (keyOf (s .layout) (now image) n) ⌝ }
     requires { ⌜ Missing (tableOf s (now image)) (keyOf (s .layout) (now image) n) ⌝ }
+    requires { ⌜ Hint (tableOf s (now image)) (keyOf (s .layout) (now image) n) hint ⌝ }
     ensures { λ r. ⌜ now (image .exit) ≡ indexed s (now (image .entry)) n ⌝ }
 {
-    let report = probe_hashed(image, s, key_of(image, s.layout, n), hash);
-    let at = bucket_at(s.layout, free_bucket(s.layout, report));
+    let place = place_for(image, s, key_of(image, s.layout, n), hash, hint);
+    let at = bucket_at(s.layout, place);
     put_u64(image, at, hash);
     put_u64(image, at + 8, (n as u64) + 1);
 }
 
-// Makes a record, whose key has this hash and is not there, the next slot, and puts that slot into the index.
-pub fn append(image: &mut [u8], s: Shape, record: &[u8], hash: u64)
+// Makes a record, whose key has this hash and is not there, the next slot, and puts that slot into the index; the bucket noted for
+// the key is a hint.
+pub fn append(image: &mut [u8], s: Shape, record: &[u8], hash: u64, hint: usize)
     requires { ⌜ Shaped s (now image) ⌝ }
     requires { ⌜ s .«slot_highwater» < s .layout .«slot_capacity» ⌝ }
     requires { ⌜ length (now «record») ≡ s .layout .«slot_size» ⌝ }
     requires { ⌜ hash ≡ fnv1a64 (part (now «record») 8 (s .layout .«key_size»)) ⌝ }
     requires { ⌜ Missing (tableOf s (now image)) (part (now «record») 8 (s .layout .«key_size»)) ⌝ }
+    requires { ⌜ Hint (tableOf s (now image)) (part (now «record») 8 (s .layout .«key_size»)) hint ⌝ }
     ensures { λ r. ⌜ now (image .exit) ≡ appended s (now (image .entry)) (now («record» .entry)) ⌝ }
 {
     let n = s.slot_highwater;
     let at = slot_at(s.layout, n);
     copy_to(image, at, record);
-    index_slot(image, s, n, hash);
+    index_slot(image, s, n, hash, hint);
 }
 
 // Puts slot n into the index if it is live. Its key is not there yet.
@@ -106,7 +122,7 @@ fn index_live(image: &mut [u8], s: Shape, n: usize)
 {
     if meta_of(image, s.layout, n) == 1 {
         let hash = fnv1a64_of(key_of(image, s.layout, n));
-        index_slot(image, s, n, hash);
+        index_slot(image, s, n, hash, s.layout.bucket_count);
     }
 }
 

@@ -11,22 +11,23 @@ use native.Mathlib.Omega.{arith}
 use lib.ListN.{length}
 use borrow.Author.Tests.{lt-ltb, not-true}
 use Rattle.numbers.specs.Bytes.{below}
-use Rattle.probing.specs.Table.{Table}
-use Rattle.probing.specs.Report.{Missing}
-use Rattle.probing.specs.Change.{inserted}
+use Rattle.probing.specs.Table.{Table, isFull}
+use Rattle.probing.specs.Report.{Missing, Hint}
+use Rattle.probing.specs.Change.{place, inserted}
 use Rattle.probing.specs.Clip.{clip}
 use Rattle.probing.specs.Counting.{allTo}
 use Rattle.probing.proofs.Counting.{all-at, one-more}
 use Rattle.probing.proofs.Keys.{not-both, not-true-false, both-and}
+use Rattle.probing.proofs.Place.{place-stays}
 use Rattle.probing.proofs.Reading.{absent-iff}
 use Rattle.header.specs.declared.shape.Shape.{Shape}
 use Rattle.header.specs.Shaped.{Shaped}
-use Rattle.image.specs.Table.{metaOf, keyOf, tableOf}
+use Rattle.image.specs.Table.{metaOf, keyOf, bucketOf, tableOf}
 use Rattle.image.specs.Lookup.{probeOf, isLive}
 use Rattle.image.specs.Check.{passes}
 use Rattle.slots.specs.Slots.{appended}
 use Rattle.slots.proofs.Table.Around.{Around, around-then, around-shaped, SameSlot, same-slot-self, same-slot-then}
-use Rattle.slots.proofs.Table.Appended.{Holds, holds-then, grown, grown-shaped, appended-around, appended-other, appended-new, appended-table}
+use Rattle.slots.proofs.Table.Appended.{Holds, holds-then, grown, grown-shaped, appended-around, appended-other, appended-new, appended-full, appended-table}
 use Rattle.batch.specs.Batch.{recordCount, recordAt, metaIn, keyIn, recordKey}
 use Rattle.batch.specs.NewKeys.{isNew, newCount, newAt}
 use Rattle.header.specs.Counters.{withCounters, withSlots}
@@ -34,7 +35,7 @@ use Rattle.soundness.specs.Apply.{afterLive, afterNew}
 use Rattle.soundness.specs.Commit.{fallsBehind}
 use Rattle.batch.proofs.Records.{record-length}
 use Rattle.soundness.proofs.Formed.{Formed, formed-clip, clip-formed, inserted-formed, passes-formed}
-use Rattle.soundness.proofs.Live.{Kept, live-kept}
+use Rattle.soundness.proofs.Live.{Puts, Kept, live-kept}
 use Rattle.image.proofs.Looked.{not-live}
 use Rattle.batch.proofs.NewRanks.{is-new, new-at, keys-differ, keys-rise}
 
@@ -78,6 +79,8 @@ pub record Grown (s : Shape) (image batch : List ℕ) (r : ℕ) (image′ : List
   pub old : (n : ℕ) → n < s .«slot_highwater» → SameSlot (s .layout) (afterLive s image batch (recordCount (s .layout) batch)) image′ n
   -- a new slot holds its record
   pub new : (q : ℕ) → q < r → Holds (s .layout) image′ (s .«slot_highwater» + q) (recordAt (s .layout) batch (newAt (s .layout) (isLive s image) batch q))
+  -- a bucket that the records left FULL is FULL still
+  pub full : (b : ℕ) → isFull (bucketOf (s .layout) (afterLive s image batch (recordCount (s .layout) batch)) b) ≡ true → isFull (bucketOf (s .layout) image′ b) ≡ true
 
 -- if ordered, no new key is below that of the last slot
 not-behind : (s : Shape) (image batch : List ℕ) → fallsBehind s image batch ≡ false → s .layout .ordered ≡ true → 0 < s .«slot_highwater»
@@ -213,6 +216,10 @@ module _ (s : Shape) (image batch : List ℕ) (ready : Ready s image batch) wher
     unfolding withSlots withCounters
     grown-fit = grown-shaped t after (around-shaped (appended-around t before (so .fit) room bytes size) (so .fit)) room
 
+    grown-full : (b : ℕ) → isFull (bucketOf (s .layout) before b) ≡ true → isFull (bucketOf (s .layout) after b) ≡ true
+    unfolding withSlots withCounters
+    grown-full = appended-full t before (so .fit) room bytes size
+
     pub appended-grown : Grown s image batch (suc r) after
     appended-grown =
         record {
@@ -222,6 +229,7 @@ module _ (s : Shape) (image batch : List ℕ) (ready : Ready s image batch) wher
           old = λ n ln. same-slot-then (so .old n ln) (grown-other n (omega arith));
           new = one-more {P = λ q. Holds (s .layout) after (s .«slot_highwater» + q) (recordAt (s .layout) batch (newAt (s .layout) (isLive s image) batch q))} r
               (λ q lq. holds-then (so .new q lq) (grown-other (s .«slot_highwater» + q) (omega arith))) grown-new;
+          full = λ b f. grown-full b (so .full b f);
         }
 
   -- after the new keys of ranks below r
@@ -234,6 +242,7 @@ module _ (s : Shape) (image batch : List ℕ) (ready : Ready s image batch) wher
         formed = rw (as-many s) (kept .formed);
         old = λ n ln. same-slot-self;
         new = λ q lq. absurd (omega arith);
+        full = λ b f. f;
       }
   new-grown (suc r) l = appended-grown r l (afterNew s image batch r) (new-grown r (omega arith))
 
@@ -242,3 +251,13 @@ module _ (s : Shape) (image batch : List ℕ) (ready : Ready s image batch) wher
       → Missing (tableOf (withSlots s (s .«slot_highwater» + r)) (afterNew s image batch r)) (recordKey (s .layout) batch (newAt (s .layout) (isLive s image) batch r))
   unfolding tableOf withSlots withCounters
   new-missing r l = let so = new-grown r (omega arith) in absent-iff _ (so .formed .sound) _ .1 (none r l (afterNew s image batch r) so)
+
+  -- where every record is a put, the place that its key had at first is its place still, unless it is FULL by then
+  pub new-hinted : Puts s batch (recordCount (s .layout) batch) → (r : ℕ) → r < newCount (s .layout) (isLive s image) batch → (key : List ℕ)
+      → Hint (tableOf (withSlots s (s .«slot_highwater» + r)) (afterNew s image batch r)) key (place (tableOf s image) key)
+  unfolding tableOf withSlots withCounters
+  new-hinted puts r l key inside free =
+      let so = new-grown r (omega arith) in
+      let vacant = ready .formed .sound .vacant in
+      place-stays (tableOf s image) (tableOf (withSlots s (s .«slot_highwater» + r)) (afterNew s image batch r)) refl refl key
+      (λ b lb f. so .full b (ap isFull (kept .buckets puts b) ∙ f)) (vacant .0) (vacant .1) (ap isFull (vacant .2)) free

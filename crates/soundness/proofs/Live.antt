@@ -18,11 +18,11 @@ use Rattle.probing.proofs.Reading.{never-broken, found-iff, absent-iff}
 use Rattle.probing.proofs.Clip.{probe-clip}
 use Rattle.header.specs.declared.shape.Shape.{Shape}
 use Rattle.header.specs.Shaped.{Shaped}
-use Rattle.image.specs.Table.{metaOf, keyOf, tableOf}
+use Rattle.image.specs.Table.{metaOf, keyOf, bucketOf, tableOf}
 use Rattle.image.specs.Lookup.{probeOf, isLive}
 use Rattle.slots.specs.Slots.{rewritten, removed}
 use Rattle.slots.proofs.Table.Around.{Around, around-self, around-then, around-shaped}
-use Rattle.slots.proofs.Table.Rewritten.{rewritten-around, rewritten-meta, rewritten-key, rewritten-table}
+use Rattle.slots.proofs.Table.Rewritten.{rewritten-around, rewritten-meta, rewritten-key, rewritten-bucket, rewritten-table}
 use Rattle.slots.proofs.Table.Removed.{removed-around, removed-meta, removed-other, removed-body, removed-table}
 use Rattle.batch.specs.Batch.{recordCount, recordAt, metaIn, recordKey, decides}
 use Rattle.batch.specs.NewKeys.{isNew}
@@ -41,6 +41,10 @@ pub record Deletes (s : Shape) (batch : List ℕ) (k : List ℕ) (i : ℕ) : Typ
 abbrev pub Spared : Shape → List ℕ → ℕ → List ℕ → Type 0
 Spared s batch i k = (j : ℕ) → j < i → Deletes s batch k j → ⊥
 
+-- every record below i is a put
+abbrev pub Puts : Shape → List ℕ → ℕ → Type 0
+Puts s batch i = (j : ℕ) → j < i → eqb (metaIn (recordAt (s .layout) batch j)) 1 ≡ true
+
 -- What the records below i leave.
 pub record Kept (s : Shape) (image batch : List ℕ) (i : ℕ) (image′ : List ℕ) : Type 0 where
   pub around : Around image image′
@@ -49,6 +53,8 @@ pub record Kept (s : Shape) (image batch : List ℕ) (i : ℕ) (image′ : List 
   pub keys : (n : ℕ) → n < s .layout .«slot_capacity» → keyOf (s .layout) image′ n ≡ keyOf (s .layout) image n
   -- a slot is live if it was and its key is not deleted
   pub lives : (n : ℕ) → n < s .«slot_highwater» → (metaOf (s .layout) image′ n ≡ 1) ↔ ((metaOf (s .layout) image n ≡ 1) × Spared s batch i (keyOf (s .layout) image n))
+  -- puts leave the buckets alone
+  pub buckets : Puts s batch i → (b : ℕ) → bucketOf (s .layout) image′ b ≡ bucketOf (s .layout) image b
 
 module _ (s : Shape) (batch : List ℕ) where
   spared-more : (i : ℕ) (k : List ℕ) → Spared s batch i k → (Deletes s batch k i → ⊥) → Spared s batch (suc i) k
@@ -64,12 +70,13 @@ module _ (s : Shape) (image batch : List ℕ) (i : ℕ) (before : List ℕ) (kep
   highwater-inside : (n : ℕ) → n < s .«slot_highwater» → n < s .layout .«slot_capacity»
   highwater-inside n l = omega (arith, kept .fit .highwater)
 
-  -- a record that deletes no live key leaves the image, or one with the same live slots and keys
+  -- a record that deletes no live key leaves the image, or one with the same live slots, keys and buckets
   stays : (after : List ℕ) → Around before after → Formed (s .layout .ordered) (tableOf s after)
       → ((n : ℕ) → metaOf (s .layout) after n ≡ metaOf (s .layout) before n) → ((n : ℕ) → keyOf (s .layout) after n ≡ keyOf (s .layout) before n)
+      → ((b : ℕ) → bucketOf (s .layout) after b ≡ bucketOf (s .layout) before b)
       → ((n : ℕ) → n < s .«slot_highwater» → metaOf (s .layout) before n ≡ 1 → keyOf (s .layout) before n ≡ key → Deletes s batch key i → ⊥)
       → Kept s image batch (suc i) after
-  stays after around formed metas keys none =
+  stays after around formed metas keys buckets none =
       record {
         around = around-then (kept .around) around;
         fit = around-shaped around (kept .fit);
@@ -79,6 +86,7 @@ module _ (s : Shape) (image batch : List ℕ) (i : ℕ) (before : List ℕ) (kep
           λ e. let was = kept .lives n l .0 (sym (metas n) ∙ e) in (was .0, spared-more s batch i _ (was .1) (here n l (sym (metas n) ∙ e))),
           λ e. metas n ∙ kept .lives n l .1 (e .0, spared-less s batch i _ (e .1)),
         );
+        buckets = λ puts b. buckets b ∙ kept .buckets (λ j l. puts j (omega arith)) b;
       }
     where
       here : (n : ℕ) → n < s .«slot_highwater» → metaOf (s .layout) before n ≡ 1 → Deletes s batch (keyOf (s .layout) image n) i → ⊥
@@ -89,20 +97,20 @@ module _ (s : Shape) (image batch : List ℕ) (i : ℕ) (before : List ℕ) (kep
   -- a record that does not decide
   undecided : decides (s .layout) batch i ≡ false → Kept s image batch (suc i) before
   undecided e =
-      stays before around-self (kept .formed) (λ n. refl) (λ n. refl)
+      stays before around-self (kept .formed) (λ n. refl) (λ n. refl) (λ b. refl)
       (λ n l alive k d. not-both (d .decides) e)
 
   -- a record whose key is new waits
   waits : isNew (s .layout) (isLive s image) batch i ≡ true → Kept s image batch (suc i) before
   waits new =
-      stays before around-self (kept .formed) (λ n. refl) (λ n. refl)
+      stays before around-self (kept .formed) (λ n. refl) (λ n. refl) (λ b. refl)
       (λ n l alive k d. not-both (eq-eqb _ 1 (is-new (s .layout) (isLive s image) batch i new .meta)) (d .meta))
 
   -- a record whose key is absent
   on-absent : (count : ℕ) → probe (tableOf s before) key ≡ absent count → Kept s image batch (suc i) before
   unfolding tableOf
   on-absent count e =
-      stays before around-self (kept .formed) (λ n. refl) (λ n. refl)
+      stays before around-self (kept .formed) (λ n. refl) (λ n. refl) (λ b. refl)
       (λ n l alive k d. absent-iff (tableOf s before) (kept .formed .sound) key .0 (count, e) n l alive k)
 
   module _ (inside : i < recordCount (s .layout) batch) (n count : ℕ) (e : probe (tableOf s before) key ≡ found n count) where
@@ -119,6 +127,7 @@ module _ (s : Shape) (image batch : List ℕ) (i : ℕ) (before : List ℕ) (kep
         stays (rewritten (s .layout) before n bytes) (rewritten-around s before (kept .fit) n l bytes size)
         (clip-formed _ (subst (Formed (s .layout .ordered)) (sym (rewritten-table s before (kept .fit) n l bytes size)) (formed-clip _ (kept .formed))))
         (rewritten-meta s before (kept .fit) n l bytes size) (rewritten-key s before (kept .fit) n l bytes size)
+        (rewritten-bucket s before (kept .fit) n l bytes size)
         (λ m l alive k d. not-both put (d .meta))
 
     -- "Delete on a live key"
@@ -174,6 +183,7 @@ module _ (s : Shape) (image batch : List ℕ) (i : ℕ) (before : List ℕ) (kep
             formed = delete-formed;
             keys = λ m l. removed-body s before (kept .fit) n bucket inside-slots inside-buckets m l .key ∙ kept .keys m l;
             lives = λ m l. (λ a. gone m l (left m l .0 a), λ b. left m l .1 (kept .lives m l .1 (b .0, spared-less s batch i _ (b .1)), apart m b));
+            buckets = λ puts b. absurd (not-both (puts i (omega arith)) delete);
           }
         where
           gone : (m : ℕ) (l : m < s .«slot_highwater») → (metaOf (s .layout) before m ≡ 1) × (m ≡ n → ⊥)
@@ -221,6 +231,7 @@ live-kept s image batch fit formed zero l =
       formed = formed;
       keys = λ n l. refl;
       lives = λ n l. (λ e. (e, λ j m. absurd (omega arith)), λ e. e .0);
+      buckets = λ puts b. refl;
     }
 live-kept s image batch fit formed (suc i) l =
     acted-kept s image batch i (afterLive s image batch i) (live-kept s image batch fit formed i (omega arith)) (omega arith)

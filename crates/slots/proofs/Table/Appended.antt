@@ -2,6 +2,7 @@
 -- Assumes nothing.
 use Prim.Native.Nat.{ℕ, _+_, _≤_, _<_}
 use mathlib.Core.Path.{_≡_, refl, sym, ap, _∙_}
+use mathlib.Core.Bool.{true}
 use mathlib.Core.List.{List, _++_}
 use native.Mathlib.Nat.{add-zero, add-assoc}
 use native.Mathlib.Omega.{arith}
@@ -10,15 +11,15 @@ use Rattle.numbers.specs.Bytes.{word, part, bytesOf, put}
 use Rattle.numbers.specs.Signed.{signed}
 use Rattle.numbers.proofs.PutPart.{part-put-in}
 use Rattle.digests.specs.Fnv.{fnv1a64}
-use Rattle.probing.specs.Table.{Table}
+use Rattle.probing.specs.Table.{Table, isFull}
 use Rattle.probing.specs.Probe.{probe}
-use Rattle.probing.specs.Report.{Missing}
+use Rattle.probing.specs.Report.{Missing, Hint}
 use Rattle.probing.specs.Change as change
-use Rattle.probing.specs.Change.{inserted, placed}
+use Rattle.probing.specs.Change.{place, inserted, placed}
 use Rattle.probing.specs.Clip.{clip}
 use Rattle.probing.proofs.Change.{by-update}
 use Rattle.probing.proofs.Place.{place-same}
-use Rattle.probing.proofs.Clip.{agree-clip, probe-clip, clip-appended}
+use Rattle.probing.proofs.Clip.{agree-clip, probe-clip, place-clip, clip-appended}
 use Rattle.header.specs.declared.shape.Layout.{Layout}
 use Rattle.header.specs.declared.shape.Shape.{Shape}
 use Rattle.header.specs.Counters.{withCounters, withSlots}
@@ -29,7 +30,7 @@ use Rattle.image.proofs.Places.{key-in-slot, index-in-slot}
 use Rattle.slots.specs.Slots.{indexed, appended}
 use Rattle.slots.proofs.Table.Around.{Around, around-then, around-shaped, SameSlot, same-slot-then}
 use Rattle.slots.proofs.Table.Apart.{fits-slots, slot-put-around, slot-put-slot, slot-put-bucket}
-use Rattle.slots.proofs.Table.Indexed.{indexed-around, indexed-slot, indexed-table}
+use Rattle.slots.proofs.Table.Indexed.{indexed-around, indexed-slot, indexed-full, indexed-table}
 
 -- Slot n holds the bytes of a record.
 pub record Holds (layout : Layout) (image : List ℕ) (n : ℕ) (bytes : List ℕ) : Type 0 where
@@ -108,6 +109,16 @@ module _ (s : Shape) (image : List ℕ) (fit : Shaped s image) (room : s .«slot
         index = rw (add-assoc (slotAt (s .layout) n) 16 (align8 (s .layout .«key_size»))) (written (16 + align8 (s .layout .«key_size»)) (s .layout .«index_size») (omega arith));
       }
 
+  -- the buckets stay, and with them what is read of the table
+  mid-bucket : (b : ℕ) → bucketOf (s .layout) mid b ≡ bucketOf (s .layout) image b
+  mid-bucket = slot-put-bucket (s .layout) image (fit .laid) (slotAt (s .layout) n) bytes n room (omega arith) high
+
+  same-clip : clip (tableOf s mid) ≡ clip (tableOf s image)
+  unfolding tableOf
+  same-clip =
+      agree-clip (tableOf s mid) (tableOf s image) refl refl refl
+      (λ b l. mid-bucket b) (λ m l. others m (omega arith) .meta) (λ m l. others m (omega arith) .key)
+
   -- a key that was not there is not there yet
   pub mid-missing : (key : List ℕ) → Missing (tableOf s image) key → Missing (tableOf s mid) key
   unfolding tableOf
@@ -118,16 +129,24 @@ module _ (s : Shape) (image : List ℕ) (fit : Shaped s image) (room : s .«slot
         ∙ probe-clip (tableOf s image) (omega (arith, fit .laid .room)) key
         ∙ none .1,
   )
-    where
-      same-clip : clip (tableOf s mid) ≡ clip (tableOf s image)
-      same-clip =
-          agree-clip (tableOf s mid) (tableOf s image) refl refl refl
-          (λ b l. slot-put-bucket (s .layout) image (fit .laid) (slotAt (s .layout) n) bytes n room (omega arith) high b)
-          (λ m l. others m (omega arith) .meta) (λ m l. others m (omega arith) .key)
+
+  -- a bucket noted for it is one still
+  pub mid-hint : (key : List ℕ) (b : ℕ) → Hint (tableOf s image) key b → Hint (tableOf s mid) key b
+  unfolding tableOf
+  mid-hint key b hint inside free =
+      sym (place-clip (tableOf s mid) (omega arith) key)
+      ∙ ap (λ (t : Table). place t key) same-clip
+      ∙ place-clip (tableOf s image) (omega arith) key
+      ∙ hint inside (ap isFull (sym (mid-bucket b)) ∙ free)
 
   pub appended-new : Holds (s .layout) (appended s image bytes) n bytes
   unfolding appended
   appended-new = holds-then mid-new (indexed-slot s mid mid-fit n room n room)
+
+  -- a bucket that is FULL stays so
+  pub appended-full : (b : ℕ) → isFull (bucketOf (s .layout) image b) ≡ true → isFull (bucketOf (s .layout) (appended s image bytes) b) ≡ true
+  unfolding appended
+  appended-full b full = indexed-full s mid mid-fit n room b (ap isFull (mid-bucket b) ∙ full)
 
   abbrev key : List ℕ
   key = part bytes 8 (s .layout .«key_size»)
@@ -145,7 +164,7 @@ module _ (s : Shape) (image : List ℕ) (fit : Shaped s image) (room : s .«slot
     unfolding tableOf withSlots withCounters change.appended bucketOf bucketAt metaOf keyOf keyAt slotAt
     mid-table =
         agree-clip (tableOf (grown s) mid) (change.appended (tableOf s image) key) refl refl refl
-        (λ b l. slot-put-bucket (s .layout) image (fit .laid) (slotAt (s .layout) n) bytes n room (omega arith) high b)
+        (λ b l. mid-bucket b)
         (λ m l. by-update (metaOf (s .layout) image) n 1 m (λ at v. ap (metaOf (s .layout) mid) at ∙ mid-new .meta ∙ alive ∙ sym v) (λ other v. others m other .meta ∙ sym v))
         (λ m l. by-update (keyOf (s .layout) image) n key m (λ at v. ap (keyOf (s .layout) mid) at ∙ mid-new .key ∙ sym v) (λ other v. others m other .key ∙ sym v))
 

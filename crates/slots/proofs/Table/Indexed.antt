@@ -2,8 +2,10 @@
 -- Assumes nothing.
 use Prim.Native.Nat.{ℕ, _+_, _≤_, _<_}
 use mathlib.Core.Path.{_≡_, refl, sym, ap, ap₂, _∙_}
+use mathlib.Core.Bool.{true}
 use mathlib.Core.List.{List, _++_}
 use native.Mathlib.Nat.{add-sub-cancel}
+use native.Mathlib.Decide.{ℕ-discrete}
 use native.Mathlib.Omega.{arith}
 use borrow.Author.Tests.{ne-eqb}
 use lib.ListN.{length, length-append}
@@ -11,7 +13,7 @@ use Rattle.numbers.specs.Bytes.{word, part, bytesOf, put}
 use Rattle.numbers.proofs.Put.{put-put, length-put}
 use Rattle.numbers.proofs.PutPart.{length-bytes, part-put-before}
 use Rattle.digests.specs.Fnv.{fnv1a64}
-use Rattle.probing.specs.Table.{FULL}
+use Rattle.probing.specs.Table.{FULL, isFull}
 use Rattle.probing.specs.Report.{Missing, freeBy}
 use Rattle.probing.specs.Change.{place, placed}
 use Rattle.probing.specs.Clip.{clip}
@@ -106,6 +108,14 @@ module _ (s : Shape) (image : List ℕ) (fit : Shaped s image) (n : ℕ) (inside
   unfolding bucketOf bucketFrom
   indexed-bucket =
       rw (read-hash, read-slot, ne-eqb (n + 1) 0 (omega arith), ne-eqb (n + 1) all-ones (omega (arith, fit .laid .room, fit .laid .small)), add-sub-cancel) refl
+
+  -- a bucket that is FULL stays so
+  pub indexed-full : (c : ℕ) → isFull (bucketOf (s .layout) image c) ≡ true → isFull (bucketOf (s .layout) (indexed s image n) c) ≡ true
+  indexed-full c full = go (ℕ-discrete c bucket)
+    where
+      go : Dec (c ≡ bucket) → isFull (bucketOf (s .layout) (indexed s image n) c) ≡ true
+      go (yes e) = ap (λ (b : ℕ). isFull (bucketOf (s .layout) (indexed s image n) b)) e ∙ ap isFull indexed-bucket
+      go (no other) = ap isFull (other-buckets c other) ∙ full
 
   -- the table with the slot placed
   pub indexed-table : n < s .«slot_highwater» → clip (tableOf s (indexed s image n)) ≡ placed (clip (tableOf s image)) n

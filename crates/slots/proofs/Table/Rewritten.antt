@@ -17,7 +17,7 @@ use Rattle.header.specs.declared.shape.Shape.{Shape}
 use Rattle.header.specs.Shaped.{Shaped}
 use Rattle.header.specs.Sizes.{align8, slotSize}
 use Rattle.header.proofs.SizeLaws.{align8-low}
-use Rattle.image.specs.Table.{slotAt, keyAt, revisionAt, metaOf, keyOf, revisionOf, indexOf, tableOf}
+use Rattle.image.specs.Table.{slotAt, keyAt, revisionAt, metaOf, keyOf, revisionOf, indexOf, bucketOf, tableOf}
 use Rattle.image.proofs.Places.{key-in-slot, revision-in-slot}
 use Rattle.slots.specs.Slots.{rewritten}
 use Rattle.slots.proofs.Table.ReadBack.{part-part}
@@ -97,9 +97,13 @@ module _ (s : Shape) (image : List ℕ) (fit : Shaped s image) (n : ℕ) (inside
       go (yes e) = rw e (before (keyAt (s .layout) n) (s .layout .«key_size») (key-in-slot (s .layout) n))
       go (no other) = rewritten-other m other .key
 
-  -- the table stays
+  -- the buckets stay, and so the table does
+  pub rewritten-bucket : (b : ℕ) → bucketOf (s .layout) (rewritten (s .layout) image n bytes) b ≡ bucketOf (s .layout) image b
+  unfolding rewritten
+  rewritten-bucket = slot-put-bucket (s .layout) image (fit .laid) (revisionAt (s .layout) n) (tail s bytes) n inside low high
+
   pub rewritten-table : clip (tableOf s (rewritten (s .layout) image n bytes)) ≡ clip (tableOf s image)
-  unfolding tableOf rewritten
+  unfolding tableOf
   rewritten-table =
       agree-clip (tableOf s (rewritten (s .layout) image n bytes)) (tableOf s image) refl refl refl
-      (λ b l. slot-put-bucket (s .layout) image (fit .laid) (revisionAt (s .layout) n) (tail s bytes) n inside low high b) (λ m l. rewritten-meta m) (λ m l. rewritten-key m)
+      (λ b l. rewritten-bucket b) (λ m l. rewritten-meta m) (λ m l. rewritten-key m)

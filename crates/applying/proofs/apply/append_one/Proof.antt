@@ -11,7 +11,7 @@ use Rattle.applying.specs.Prepared.{oneAppended}
 use Rattle.batch.proofs.Records.{record-length}
 use Rattle.batch.specs.Batch.{recordKey, keyIn}
 use Rattle.digests.specs.Fnv.{fnv1a64}
-use Rattle.probing.specs.Report.{Missing}
+use Rattle.probing.specs.Report.{Missing, Hint}
 use Rattle.image.specs.Table.{tableOf}
 use Rattle.header.specs.Counters.{withCounters, withSlots}
 use Rattle.header.specs.Shaped.{Shaped}
@@ -39,27 +39,42 @@ record-requires : tie.Need-record-requires
 record-requires c κs = search needs
 
 mul-append : tie.Need-mul-append
-mul-append c = search needs
+mul-append c = let b = c .before .before .before .before .before .before .before .before .before .before in omega (arith, b .pre .1 .0 .fits, b .pre .1 .1 .0 .1)
 
 shared-slice-read-append : tie.Need-shared-slice-read-append
-shared-slice-read-append c = let b = c .before .before .before .before .before .before .before .before .before .before in omega (arith, b .pre .1 .0 .size, b .pre .1 .0 .fits, b .pre .1 .1 .0 .1)
+shared-slice-read-append c = let b = c .before .before .before .before .before .before .before .before .before .before .before in omega (arith, b .pre .1 .0 .size, b .pre .1 .0 .fits, b .pre .1 .1 .0 .1)
+
+mul-append-2 : tie.Need-mul-append-2
+mul-append-2 c = let b = c .before .before .before .before .before .before .before .before .before .before .before in omega (arith, b .pre .1 .0 .fits, b .pre .1 .1 .0 .1)
+
+shared-slice-read-append-2 : tie.Need-shared-slice-read-append-2
+shared-slice-read-append-2 c = let b = c .before .before .before .before .before .before .before .before .before .before .before .before in omega (arith, b .pre .1 .1 .0 .1, b .pre .1 .1 .1 .0)
+
+cast-append : tie.Need-cast-append
+cast-append c =
+    let a = c .before .before .before .before .before .before .before .before .before .before .before .before .args in
+    omega (arith, c .shared-slice-known7 .given (getD (a .order .now) (a .k) 0) .fits)
 
 append-requires : tie.Need-append-requires
 unfolding withSlots withCounters recordKey keyIn
 append-requires c κs =
-    let b = c .before .before .before .before .before .before .before .before .before .before in
+    let b = c .before .before .before .before .before .before .before .before .before .before .before .before in
     let a = b .args in
     let i = getD (a .order .now) (a .k) 0 in
-    let r = c .before .«record» .result .now in
+    let r = c .before .before .«record» .result .now in
+    let same = sym (c .before .before .«record» .ensures) in
     let there = b .pre .1 .1 .0 .1 in
+    let hint = getD (a .places .now) i 0 in
     let n = a .s .«slot_highwater» + a .k in
-    let room : n < a .s .layout .«slot_capacity» = b .pre .1 .1 .1 .0 in
-    let whole : length r ≡ a .s .layout .«slot_size» = ap length (c .before .«record» .ensures) ∙ record-length (a .s .layout) (a .batch .now) i there in
+    let room : n < a .s .layout .«slot_capacity» = b .pre .1 .1 .1 .1 .0 in
+    let whole : length r ≡ a .s .layout .«slot_size» = ap length (c .before .before .«record» .ensures) ∙ record-length (a .s .layout) (a .batch .now) i there in
     let hashed : getD (a .hashes .now) i 0 ≡ fnv1a64 (keyIn (a .s .layout) r) =
-    b .pre .1 .0 .each i there ∙ ap (λ r. fnv1a64 (keyIn (a .s .layout) r)) (sym (c .before .«record» .ensures)) in
-    let none = subst (λ (q : List ℕ). Missing (tableOf (withSlots (a .s) n) (a .image .now)) (keyIn (a .s .layout) q)) (sym (c .before .«record» .ensures)) (b .pre .1 .1 .1 .1) in
-    subst (λ (t : Shape). Shaped t (a .image .now) × ((t .«slot_highwater» < t .layout .«slot_capacity») × ((length r ≡ t .layout .«slot_size») × ((getD (a .hashes .now) i 0 ≡ fnv1a64 (keyIn (t .layout) r)) × Missing (tableOf t (a .image .now)) (keyIn (t .layout) r)))))
-    (sym (c .before .before .with-slots .ensures)) (slots-shaped (a .s) (a .image .now) (b .pre .0) n (omega arith) (omega arith), (room, (whole, (hashed, none))))
+    b .pre .1 .0 .each i there ∙ ap (λ r. fnv1a64 (keyIn (a .s .layout) r)) same in
+    let none = subst (λ (q : List ℕ). Missing (tableOf (withSlots (a .s) n) (a .image .now)) (keyIn (a .s .layout) q)) same (b .pre .1 .1 .1 .1 .1 .0) in
+    let hinted = subst (λ (q : List ℕ). Hint (tableOf (withSlots (a .s) n) (a .image .now)) (keyIn (a .s .layout) q) hint) same (b .pre .1 .1 .1 .1 .1 .1) in
+    subst
+    (λ (t : Shape). Shaped t (a .image .now) × ((t .«slot_highwater» < t .layout .«slot_capacity») × ((length r ≡ t .layout .«slot_size») × ((getD (a .hashes .now) i 0 ≡ fnv1a64 (keyIn (t .layout) r)) × (Missing (tableOf t (a .image .now)) (keyIn (t .layout) r) × Hint (tableOf t (a .image .now)) (keyIn (t .layout) r) hint)))))
+    (sym (c .before .before .before .with-slots .ensures)) (slots-shaped (a .s) (a .image .now) (b .pre .0) n (omega arith) (omega arith), (room, (whole, (hashed, (none, hinted)))))
 
 same-length : tie.Need-same-length
 same-length c = search needs
@@ -67,9 +82,9 @@ same-length c = search needs
 returns : tie.Need-returns
 unfolding oneAppended
 returns c =
-    let a = c .before .before .before .before .before .before .before .before .before .before .before .before .before .args in
+    let a = c .before .before .before .before .before .before .before .before .before .before .before .before .before .before .before .args in
     c .before .before .append .ensures
-    ∙ ap₂ (λ (t : Shape) (r : List ℕ). appended t (a .image .now) r) (c .before .before .before .before .before .with-slots .ensures) (c .before .before .before .before .«record» .ensures)
+    ∙ ap₂ (λ (t : Shape) (r : List ℕ). appended t (a .image .now) r) (c .before .before .before .before .before .before .with-slots .ensures) (c .before .before .before .before .before .«record» .ensures)
 
 pub append-one-spec : {M : Type 1} → statement M
 append-one-spec =
@@ -83,6 +98,9 @@ append-one-spec =
     record-requires
     mul-append
     shared-slice-read-append
+    mul-append-2
+    shared-slice-read-append-2
+    cast-append
     append-requires
     same-length
     returns)

@@ -16,13 +16,13 @@ use Rattle.commit.proofs.commit.commit_in.Tie as tie
 
 -- the order that the turns tell is that of the new keys
 in-order : (c : tie.After-order-new-keys)
-    → let a = c .before .before .before .before .before .before .before .before .before .before .before .args in
+    → let a = c .before .before .before .before .before .before .before .before .before .before .before .before .before .args in
     let count = c .order-new-keys .result .count in
     Noted (newAt (a .s .layout) (isLive (a .s) (a .image .now)) (a .batch .now)) count (c .order-new-keys .result .records) × (count ≡ newCount (a .s .layout) (isLive (a .s) (a .image .now)) (a .batch .now))
 in-order c =
-    let a = c .before .before .before .before .before .before .before .before .before .before .before .args in
+    let a = c .before .before .before .before .before .before .before .before .before .before .before .before .before .args in
     let live = isLive (a .s) (a .image .now) in
-    let turned = c .before .before .take-turns .ensures in
+    let turned = c .before .before .before .before .take-turns .ensures .0 in
     let told = c .order-new-keys .ensures in
     (noted-as (told .1) (λ k l. turn-new-at (a .s .layout) live (a .batch .now) _ turned k), told .0 ∙ turn-count (a .s .layout) live (a .batch .now) _ turned)
 
@@ -50,22 +50,22 @@ slice-aggregate-order-new-keys : tie.Need-slice-aggregate-order-new-keys
 slice-aggregate-order-new-keys c = search needs
 
 order-new-keys-requires : tie.Need-order-new-keys-requires
-order-new-keys-requires c κs = (search needs, (_, c .before .take-turns .ensures))
+order-new-keys-requires c κs = (search needs, (_, c .before .before .before .take-turns .ensures .0))
 
 slice-aggregate-room-test : tie.Need-slice-aggregate-room-test
 slice-aggregate-room-test c = search needs
 
 room-test-requires : tie.Need-room-test-requires
-room-test-requires c κs = let o = in-order (c .before .before .before) in (c .before .before .before .before .before .before .before .before .before .before .before .before .before .before .pre .0, (o .0, o .1))
+room-test-requires c κs = let o = in-order (c .before .before .before) in (c .before .before .before .before .before .before .before .before .before .before .before .before .before .before .before .before .pre .0, (o .0, o .1))
 
 same-length-2 : tie.Need-same-length-2
 same-length-2 c = search needs
 
 returns-2 : tie.Need-returns-2
 returns-2 c =
-    let a = c .before .before .before .before .before .before .before .before .before .before .before .before .before .before .before .before .args in
+    let a = c .before .before .before .before .before .before .before .before .before .before .before .before .before .before .before .before .before .before .args in
     says-refused (a .image .now) _ _
-    (room-decides (a .s) (a .image .now) (a .batch .now) (c .before .before .before .before .before .before .before .before .before .before .before .before .sound-test .ensures) (c .before .before .before .before .before .before .before .before .before .before .before .if1 .left) (c .before .room-test .ensures)) (c .if2 .taken)
+    (room-decides (a .s) (a .image .now) (a .batch .now) (c .before .before .before .before .before .before .before .before .before .before .before .before .before .before .sound-test .ensures) (c .before .before .before .before .before .before .before .before .before .before .before .before .before .if1 .left) (c .before .room-test .ensures)) (c .if2 .taken)
 
 slice-aggregate-apply : tie.Need-slice-aggregate-apply
 slice-aggregate-apply c = search needs
@@ -76,19 +76,23 @@ slice-aggregate-apply-2 c = search needs
 slice-aggregate-apply-3 : tie.Need-slice-aggregate-apply-3
 slice-aggregate-apply-3 c = search needs
 
+slice-aggregate-apply-4 : tie.Need-slice-aggregate-apply-4
+slice-aggregate-apply-4 c = search needs
+
 apply-requires : tie.Need-apply-requires
 apply-requires c κs =
-    let b = c .before .before .before .before .before .before .before .before .before .before .before .before .before .before .before .before .before .before .before .before in
+    let b = c .before .before .before .before .before .before .before .before .before .before .before .before .before .before .before .before .before .before .before .before .before .before .before in
     let a = b .args in
-    let o = in-order (c .before .before .before .before .before .before .before .before .before) in
-    let none = sym (room-decides (a .s) (a .image .now) (a .batch .now) (c .before .before .before .before .before .before .before .before .before .before .before .before .before .before .before .before .sound-test .ensures) (c .before .before .before .before .before .before .before .before .before .before .before .before .before .before .before .if1 .left) (c .before .before .before .before .before .room-test .ensures)) ∙ c .before .before .before .before .if2 .left in
+    let o = in-order (c .before .before .before .before .before .before .before .before .before .before) in
+    let none = sym (room-decides (a .s) (a .image .now) (a .batch .now) (c .before .before .before .before .before .before .before .before .before .before .before .before .before .before .before .before .before .before .before .sound-test .ensures) (c .before .before .before .before .before .before .before .before .before .before .before .before .before .before .before .before .before .before .if1 .left) (c .before .before .before .before .before .before .room-test .ensures)) ∙ c .before .before .before .before .before .if2 .left in
     let further = further-facts (a .s) (a .image .now) (a .batch .now) none in (
       b .pre .0,
       (
         b .pre .1,
         record {
-          hashed = c .before .before .before .before .before .before .before .before .before .before .before .before .before .before .hash-keys .ensures;
-          turned = c .before .before .before .before .before .before .before .before .before .before .before .take-turns .ensures;
+          hashed = c .before .before .before .before .before .before .before .before .before .before .before .before .before .before .before .before .before .hash-keys .ensures;
+          turned = c .before .before .before .before .before .before .before .before .before .before .before .before .before .before .take-turns .ensures .0;
+          placed = c .before .before .before .before .before .before .before .before .before .before .before .before .before .before .take-turns .ensures .1;
           ordered = o .0;
           counted = o .1;
           room = omega (arith, further .room, b .pre .0 .highwater, o .1);
@@ -103,9 +107,9 @@ same-length-3 c = search needs
 
 returns-3 : tie.Need-returns-3
 returns-3 c =
-    let a = c .before .before .before .before .before .before .before .before .before .before .before .before .before .before .before .before .before .before .before .before .before .before .before .args in
+    let a = c .before .before .before .before .before .before .before .before .before .before .before .before .before .before .before .before .before .before .before .before .before .before .before .before .before .before .args in
     says-accepted (a .image .now) _ _
-    (sym (c .before .before .before .before .before .before .before .if2 .left) ∙ room-decides (a .s) (a .image .now) (a .batch .now) (c .before .before .before .before .before .before .before .before .before .before .before .before .before .before .before .before .before .before .before .sound-test .ensures) (c .before .before .before .before .before .before .before .before .before .before .before .before .before .before .before .before .before .before .if1 .left) (c .before .before .before .before .before .before .before .before .room-test .ensures)) (c .before .before .apply .ensures)
+    (sym (c .before .before .before .before .before .before .before .before .if2 .left) ∙ room-decides (a .s) (a .image .now) (a .batch .now) (c .before .before .before .before .before .before .before .before .before .before .before .before .before .before .before .before .before .before .before .before .before .before .sound-test .ensures) (c .before .before .before .before .before .before .before .before .before .before .before .before .before .before .before .before .before .before .before .before .before .if1 .left) (c .before .before .before .before .before .before .before .before .before .room-test .ensures)) (c .before .before .apply .ensures)
 
 pub commit-in-spec : {M : Type 1} → statement M
 commit-in-spec =
@@ -126,6 +130,7 @@ commit-in-spec =
     slice-aggregate-apply
     slice-aggregate-apply-2
     slice-aggregate-apply-3
+    slice-aggregate-apply-4
     apply-requires
     same-length-3
     returns-3)

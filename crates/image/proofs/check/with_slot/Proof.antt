@@ -34,7 +34,7 @@ summed c =
     let b = c .before .before .before .before .before .before .before in
     let a = b .args in
     let fit = b .pre .0 in
-    omega (arith, fit .laid .small, fit .laid .room, fit .highwater, b .pre .1 .0, probes-small (tableOf (a .s) (a .image .now)) (a .n) (a .tally) (b .pre .1 .1) (fit .laid .small))
+    omega (arith, fit .laid .small, fit .laid .room, fit .highwater, b .pre .1 .0, probes-small (tableOf (a .s) (a .image .now)) (a .n) (a .tally) (b .pre .1 .1) (omega (arith, fit .laid .small)))
 
 meta-of-requires : tie.Need-meta-of-requires
 meta-of-requires c κs = search needs

@@ -7,11 +7,11 @@ use borrow.Author.Needs.{needs}
 use native.Mathlib.Omega.{arith}
 use Rattle.numbers.specs.Bytes.{put}
 use Rattle.digests.specs.Fnv.{fnv1a64}
-use Rattle.probing.specs.Report.{Missing}
+use Rattle.probing.specs.Report.{Missing, Hint}
 use Rattle.image.specs.Table.{keyOf, tableOf}
 use Rattle.image.proofs.Places.{slot-inside}
 use Rattle.slots.specs.Slots.{appended}
-use Rattle.slots.proofs.Table.Appended.{mid-new, mid-missing}
+use Rattle.slots.proofs.Table.Appended.{mid-new, mid-missing, mid-hint}
 use Rattle.slots.proofs.slots.append.Statement.{statement}
 use Rattle.slots.proofs.slots.append.Tie as tie
 
@@ -34,12 +34,25 @@ index-slot-requires : tie.Need-index-slot-requires
 index-slot-requires c κs =
     let b = c .before .before .before .before .before .before .before .before in
     let a = b .args in
+    let pre = b .pre .1 .1 .1 in
     let l = a .s .layout in
     let n = a .s .«slot_highwater» in
     let made = c .before .before .before .copy-to .ensures ∙ ap (λ (at : ℕ). put (a .image .now) at (a .«record» .now)) (c .before .before .before .before .before .slot-at .ensures) in
-    let key = ap (λ (i : List ℕ). keyOf l i n) made ∙ mid-new (a .s) (a .image .now) (b .pre .0) (b .pre .1 .0) (a .«record» .now) (b .pre .1 .1 .0) .key in
-    let none = mid-missing (a .s) (a .image .now) (b .pre .0) (b .pre .1 .0) (a .«record» .now) (b .pre .1 .1 .0) _ (b .pre .1 .1 .1 .1) in
-    (search needs, (search needs, (b .pre .1 .1 .1 .0 ∙ ap fnv1a64 (sym key), subst (λ (i : List ℕ). Missing (tableOf (a .s) i) (keyOf l i n)) (sym made) (rw (mid-new (a .s) (a .image .now) (b .pre .0) (b .pre .1 .0) (a .«record» .now) (b .pre .1 .1 .0) .key) none))))
+    let key = mid-new (a .s) (a .image .now) (b .pre .0) (b .pre .1 .0) (a .«record» .now) (b .pre .1 .1 .0) .key in
+    let none = mid-missing (a .s) (a .image .now) (b .pre .0) (b .pre .1 .0) (a .«record» .now) (b .pre .1 .1 .0) _ (pre .1 .0) in
+    let hint = mid-hint (a .s) (a .image .now) (b .pre .0) (b .pre .1 .0) (a .«record» .now) (b .pre .1 .1 .0) _ (a .hint) (pre .1 .1) in (
+      search needs,
+      (
+        search needs,
+        (
+          pre .0 ∙ ap fnv1a64 (sym (ap (λ (i : List ℕ). keyOf l i n) made ∙ key)),
+          (
+            subst (λ (i : List ℕ). Missing (tableOf (a .s) i) (keyOf l i n)) (sym made) (rw key none),
+            subst (λ (i : List ℕ). Hint (tableOf (a .s) i) (keyOf l i n) (a .hint)) (sym made) (rw key hint),
+          ),
+        ),
+      ),
+    )
 
 same-length : tie.Need-same-length
 same-length c = search needs

@@ -3,7 +3,9 @@
 use borrow.Author.Needs.{needs}
 use mathlib.Core.Path.{refl, sym, ap, _∙_}
 use borrow.Author.Tests.{eq-eqb, ne-eqb}
+use native.Mathlib.Omega.{arith}
 use Rattle.digests.specs.Fnv.{fnv1a64}
+use Rattle.image.specs.Table.{tableOf}
 use Rattle.slots.proofs.slots.index_live.Statement.{statement}
 use Rattle.slots.proofs.slots.index_live.Tie as tie
 
@@ -17,10 +19,11 @@ fnv1a64-of-requires : tie.Need-fnv1a64-of-requires
 fnv1a64-of-requires c κs = search needs
 
 index-slot-requires : tie.Need-index-slot-requires
+unfolding tableOf
 index-slot-requires c κs =
     let none = c .before .before .before .before .before .before .before .before .pre .1 .1 in
     let alive = sym (c .before .before .before .before .before .meta-of .ensures) ∙ c .before .before .before .before .if1 .taken in
-    (search needs, (search needs, (c .before .fnv1a64-of .ensures ∙ ap fnv1a64 (c .before .before .key-of .ensures), none alive)))
+    (search needs, (search needs, (c .before .fnv1a64-of .ensures ∙ ap fnv1a64 (c .before .before .key-of .ensures), (none alive, λ l free. absurd (omega arith)))))
 
 same-length : tie.Need-same-length
 same-length c = search needs

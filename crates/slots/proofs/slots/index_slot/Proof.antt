@@ -8,29 +8,26 @@ use mathlib.Core.List.{List}
 use lib.ListN.{length}
 use Rattle.digests.specs.Fnv.{fnv1a64}
 use Rattle.probing.specs.Change.{place}
-use Rattle.image.specs.Told.{reportOf}
+use Rattle.probing.specs.Report.{Missing, Hint}
 use Rattle.image.specs.Table.{bucketAt, keyOf, tableOf}
 use Rattle.image.proofs.Places.{bucket-inside}
-use Rattle.slots.proofs.Table.Indexed.{reported-place, bucket-below, indexes}
+use Rattle.slots.proofs.Table.Indexed.{bucket-below, indexes}
 use Rattle.slots.proofs.slots.index_slot.Statement.{statement}
 use Rattle.slots.proofs.slots.index_slot.Tie as tie
 
 -- where the function began
-abbrev start : tie.After-free-bucket → tie.Start
-start c = c .before .before .before .before .before
+abbrev start : tie.After-place-for → tie.Start
+start c = c .before .before .before .before
 
 -- the key that the slot has
 abbrev key : tie.Start → List ℕ
 key b = keyOf (b .args .s .layout) (b .args .image .now) (b .args .n)
 
 -- the bucket is the key's place
-found : (c : tie.After-free-bucket) → c .free-bucket .result ≡ place (tableOf (start c .args .s) (start c .args .image .now)) (key (start c))
-found c =
-    let a = start c .args in
-    let told = c .before .probe-hashed .ensures ∙ ap (reportOf (a .s) (a .image .now)) (c .before .before .key-of .ensures) in
-    c .free-bucket .ensures ∙ reported-place (a .s) (a .image .now) (key (start c)) _ told (start c .pre .1 .1 .1)
+found : (c : tie.After-place-for) → c .place-for .result ≡ place (tableOf (start c .args .s) (start c .args .image .now)) (key (start c))
+found c = c .place-for .ensures ∙ ap (place (tableOf (start c .args .s) (start c .args .image .now))) (c .before .key-of .ensures)
 
-inside : (c : tie.After-free-bucket) → bucketAt (start c .args .s .layout) (c .free-bucket .result) + 16 ≤ length (start c .args .image .now)
+inside : (c : tie.After-place-for) → bucketAt (start c .args .s .layout) (c .place-for .result) + 16 ≤ length (start c .args .image .now)
 inside c =
     let a = start c .args in
     let pre = start c .pre in
@@ -40,11 +37,14 @@ inside c =
 key-of-requires : tie.Need-key-of-requires
 key-of-requires c κs = search needs
 
-probe-hashed-requires : tie.Need-probe-hashed-requires
-probe-hashed-requires c κs = let b = c .before .before .before in (search needs, b .pre .1 .1 .0 ∙ ap fnv1a64 (sym (c .key-of .ensures)))
-
-free-bucket-requires : tie.Need-free-bucket-requires
-free-bucket-requires c κs = search needs
+place-for-requires : tie.Need-place-for-requires
+place-for-requires c κs =
+    let b = c .before .before .before in
+    let a = b .args in
+    let pre = b .pre .1 .1 in
+    let t = tableOf (a .s) (a .image .now) in
+    let same = sym (c .key-of .ensures) in
+    (search needs, (pre .0 ∙ ap fnv1a64 same, (subst (Missing t) same (pre .1 .0), subst (λ (k : List ℕ). Hint t k (a .hint)) same (pre .1 .1))))
 
 bucket-at-requires : tie.Need-bucket-at-requires
 bucket-at-requires c κs = omega (arith, inside c)
@@ -81,8 +81,7 @@ index-slot-spec =
     tie.close
     (tie.spec
     key-of-requires
-    probe-hashed-requires
-    free-bucket-requires
+    place-for-requires
     bucket-at-requires
     put-u64-requires
     add-put-u64

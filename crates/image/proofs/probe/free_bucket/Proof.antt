@@ -1,10 +1,10 @@
--- `slots::slots::free_bucket` meets its contract.
+-- `image::probe::free_bucket` meets its contract.
 -- Assumes nothing.
 use borrow.Author.Tests.{eq-eqb, ne-eqb}
 use native.Mathlib.Omega.{arith}
 use mathlib.Core.Path.{_≡_, refl}
-use Rattle.slots.proofs.slots.free_bucket.Statement.{statement}
-use Rattle.slots.proofs.slots.free_bucket.Tie as tie
+use Rattle.image.proofs.probe.free_bucket.Statement.{statement}
+use Rattle.image.proofs.probe.free_bucket.Tie as tie
 
 returns : tie.Need-returns
 returns c =
