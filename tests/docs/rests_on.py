@@ -12,7 +12,7 @@ ROOT = os.path.abspath(os.path.join(os.path.dirname(__file__), "..", ".."))
 CRATES = os.path.join(ROOT, "crates")
 
 # where a reader begins
-STATEMENTS = ("Demand1", "Demand2", "Demand3", "Examples", "WholeLength", "ExactLength", "ForeignShapes", "Calls", "Exports")
+STATEMENTS = ("Demand1", "Demand2", "Demand3", "Examples", "WholeLength", "ExactLength", "ForeignShapes", "OneProbe", "Calls", "Exports")
 
 NAMED = re.compile(r"^use Rattle·(\w+)(?:·specs)?\.specs\.(?:specs\.)?(\w+)", re.M)
 

@@ -10,6 +10,7 @@ use crate::further::room_test;
 use crate::further::sound_test;
 use crate::turns::take_turns;
 use applying::apply::apply;
+use batch::batch::MOST_RECORDS;
 use batch::decided::hash_keys;
 use batch::new_keys::order_new_keys;
 use header::answer::DONE;
@@ -29,9 +30,8 @@ fn commit_in(image: &mut [u8], s: Shape, batch: &[u8]) -> u32
         return sound;
     }
     let hashes = hash_keys(batch, s.layout);
-    let notes = take_turns(image, s, batch, &hashes);
-    let turns = notes.turns;
-    let places = notes.places;
+    let mut places: [u32; MOST_RECORDS] = [0; MOST_RECORDS];
+    let turns = take_turns(image, s, batch, &hashes, &mut places);
     let order = order_new_keys(batch, s.layout, &turns);
     let records = order.records;
     let room = room_test(image, s, batch, &records, order.count);

@@ -30,12 +30,6 @@ struct Note {
     place: u32,
 }
 
-// What is noted of each record.
-pub struct Notes {
-    pub turns: [u8; MOST_RECORDS],
-    pub places: [u32; MOST_RECORDS],
-}
-
 // The bucket that a report leaves for a new key; none, for which B stands, where the batch deletes.
 fn kept_place(l: Layout, report: Report, deletes: bool) -> u32
     requires { ⌜ (l .«bucket_count» < 2 ^ 32) × (freeBy (l .«bucket_count») (report .tombstone) (report .bucket) < 2 ^ 32) ⌝ }
@@ -93,17 +87,23 @@ fn turn_of(
     }
 }
 
-// For each record its turn, and the bucket noted for it.
-pub fn take_turns(image: &[u8], s: Shape, batch: &[u8], hashes: &[u64]) -> Notes
+// For each record its turn; the bucket noted for it goes into places, which are all zero before.
+pub fn take_turns(
+    image: &[u8],
+    s: Shape,
+    batch: &[u8],
+    hashes: &[u64],
+    places: &mut [u32],
+) -> [u8; MOST_RECORDS]
     requires { ⌜ Shaped s (now image) ⌝ }
     requires { ⌜ Noted (hashOf (s .layout) (now batch)) (recordCount (s .layout) (now batch)) (now hashes) ⌝ }
-    ensures { λ r. ⌜ Noted (turnOf (s .layout) (isLive s (now (image .entry))) (now (batch .entry))) (recordCount (s .layout) (now (batch .entry))) (r .turns) × Noted (notedPlace s (now (image .entry)) (now (batch .entry))) (recordCount (s .layout) (now (batch .entry))) (r .places) ⌝ }
+    requires { ⌜ Noted (notedPlace s (now image) (now batch)) 0 (now places) ⌝ }
+    ensures { λ r. ⌜ Noted (turnOf (s .layout) (isLive s (now (image .entry))) (now (batch .entry))) (recordCount (s .layout) (now (batch .entry))) r × Noted (notedPlace s (now (image .entry)) (now (batch .entry))) (recordCount (s .layout) (now (batch .entry))) (now (places .exit)) ⌝ }
 {
     let count = record_count(batch, s.layout);
     let flags = flag_deciding(batch, s.layout, hashes);
     let deletes = some_delete(batch, s.layout);
     let mut turns: [u8; MOST_RECORDS] = [0; MOST_RECORDS];
-    let mut places: [u32; MOST_RECORDS] = [0; MOST_RECORDS];
     let mut i = 0;
     while i < count {
         let note = turn_of(image, s, batch, hashes, &flags, deletes, i);
@@ -111,5 +111,5 @@ pub fn take_turns(image: &[u8], s: Shape, batch: &[u8], hashes: &[u64]) -> Notes
         places[i] = note.place;
         i += 1;
     }
-    Notes { turns, places }
+    turns
 }

@@ -1,24 +1,25 @@
 -- What the inner probe reports.
 -- Assumes nothing.
 use Prim.Native.Nat.{ℕ, _-_, _<_}
-use mathlib.Core.Bool.{false}
+use mathlib.Core.Bool.{true, false}
 use mathlib.Core.Path.{_≡_, refl, sym, ap, _∙_}
 use mathlib.Core.Logic.{_⊎_, inl, inr}
 use mathlib.Core.List.{List}
 use native.Mathlib.Nat.{mod-lt}
 use native.Mathlib.Omega.{arith}
-use Rattle.probing.specs.Table.{EMPTY, TOMBSTONE, FULL, Table, isTombstone}
+use Rattle.probing.specs.Table.{EMPTY, TOMBSTONE, FULL, Table, isTombstone, isFull}
 use Rattle.probing.specs.Probe.{found, absent, broken, home, probe, countOf}
 use Rattle.probing.specs.Report.{First, None, report}
-use Rattle.probing.specs.Change.{update, deleted}
+use Rattle.probing.specs.Change.{update, deleted, place}
 use Rattle.probing.proofs.Keys.{not-both}
 use Rattle.probing.proofs.Reading.{answers}
 use Rattle.probing.proofs.Reading.Ends.{found-run, absent-run}
 use Rattle.probing.proofs.Rebuild.{unbuilt}
+use Rattle.probing.proofs.Place.{place-stays}
 use Rattle.probing.proofs.Report.{first-or-none, place-reported}
 use Rattle.soundness.proofs.Accepted.{accepted-ready}
 use Rattle.soundness.proofs.Grown.{new-missing}
-use Rattle.demands.specs.OneProbe.{OneProbe}
+use Rattle.demands.specs.OneProbe.{left, OneProbe}
 
 module _ (t : Table) (k : List ℕ) where
   stopped-found : (s n : ℕ) → probe t k ≡ found s n → t .bucket (report t k .bucket) ≡ FULL (t .hash k) s
@@ -61,6 +62,15 @@ module _ (t : Table) (k : List ℕ) where
   unfolding deleted report
   deletes s n e = rw e refl
 
+serves-on : (t u : Table) → t .B ≡ u .B → t .hash ≡ u .hash → ((b : ℕ) → b < t .B → isFull (t .bucket b) ≡ true → isFull (u .bucket b) ≡ true)
+    → (k : List ℕ) (n : ℕ) → probe t k ≡ absent n → isFull (u .bucket (left t k)) ≡ false → place u k ≡ left t k
+serves-on t u sameB sameHash full k n e free =
+    let run = absent-run t k n e in
+    let placed = place-reported t k n e in
+    place-stays t u sameB sameHash k full (report t k .bucket) (inside t k (omega (arith, run .some, run .bounded)))
+    (ap isFull (stopped-absent t k n e)) (ap (λ (b : ℕ). isFull (u .bucket b)) (sym placed) ∙ free)
+    ∙ sym placed
+
 pub one-probe : OneProbe
 unfolding report
 one-probe =
@@ -73,6 +83,7 @@ one-probe =
       apart = apart;
       deletes = deletes;
       places = λ t k n e. sym (place-reported t k n e);
+      serves-on = serves-on;
       in-turn = λ o image batch accepted. new-missing _ image batch (accepted-ready o image batch accepted);
       in-rebuild = unbuilt;
     }

@@ -1,14 +1,13 @@
 -- "CR 6. One probe instead of two.": what the inner probe reports, and that deletes and new keys go by it.
 -- Assumes nothing.
 use Prim.Native.Nat.{ℕ, _+_, _-_, _<_}
-use mathlib.Core.Bool.{cond}
+use mathlib.Core.Bool.{true, false}
 use mathlib.Core.Path.{_≡_}
 use mathlib.Core.Logic.{_⊎_}
 use mathlib.Core.List.{List}
-use lib.Dec.{eqb}
-use Rattle.probing.specs.Table.{EMPTY, TOMBSTONE, FULL, Table, liveCount}
+use Rattle.probing.specs.Table.{EMPTY, TOMBSTONE, FULL, Table, isFull, liveCount}
 use Rattle.probing.specs.Probe.{found, absent, broken, home, probe, countOf}
-use Rattle.probing.specs.Report.{report, Missing, First, None}
+use Rattle.probing.specs.Report.{report, Missing, freeBy, First, None}
 use Rattle.probing.specs.Change.{update, deleted, place, rebuiltTo}
 use Rattle.header.specs.declared.options.Options.{Options}
 use Rattle.header.specs.Answer.{done}
@@ -21,6 +20,10 @@ use Rattle.batch.specs.Batch.{recordKey}
 use Rattle.batch.specs.NewKeys.{newCount, newAt}
 use Rattle.soundness.specs.Apply.{afterNew}
 use Rattle.soundness.specs.Commit.{commitTests}
+
+-- the bucket that a report leaves for a key that is not there: the first TOMBSTONE, else the EMPTY where the probe stopped
+abbrev pub left : Table → List ℕ → ℕ
+left t k = freeBy (t .B) (report t k .tombstone) (report t k .bucket)
 
 pub record OneProbe : Type 0 where
   -- it ends as the probe rule says, with that count
@@ -37,9 +40,12 @@ pub record OneProbe : Type 0 where
   pub apart : (t : Table) (k : List ℕ) → (probe t k ≡ broken → ⊥) → report t k .tombstone ≡ report t k .bucket → ⊥
   -- the bucket that a delete makes a TOMBSTONE is the one where the probe stopped
   pub deletes : (t : Table) (k : List ℕ) (s n : ℕ) → probe t k ≡ found s n → deleted t k .bucket ≡ update (t .bucket) (report t k .bucket) TOMBSTONE
-  -- and a key that is not there takes the first TOMBSTONE, else the EMPTY
-  pub places : (t : Table) (k : List ℕ) (n : ℕ) → probe t k ≡ absent n
-      → place t k ≡ cond (eqb (report t k .tombstone) (t .B)) (report t k .bucket) (report t k .tombstone)
+  -- and a key that is not there takes the bucket that the report leaves
+  pub places : (t : Table) (k : List ℕ) (n : ℕ) → probe t k ≡ absent n → place t k ≡ left t k
+  -- A report made before serves on while no FULL bucket becomes free, as it does by a delete, and the one that it leaves is not taken.
+  pub serves-on : (t u : Table) → t .B ≡ u .B → t .hash ≡ u .hash
+      → ((b : ℕ) → b < t .B → isFull (t .bucket b) ≡ true → isFull (u .bucket b) ≡ true)
+      → (k : List ℕ) (n : ℕ) → probe t k ≡ absent n → isFull (u .bucket (left t k)) ≡ false → place u k ≡ left t k
   -- In a commit, no new key is there when its turn comes, after the batch's deletes and the new keys before it; so the report of that
   -- moment says its place.
   pub in-turn : (o : Options) (image batch : List ℕ) → firstOf (commitTests o image batch) ≡ done

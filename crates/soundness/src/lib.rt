@@ -1,1 +1,1 @@
-// What an accepted commit leaves: a sound table, under a header that passes. Laws in proofs/. Nothing here runs.
+// What a commit answers and does, and that what an accepted one leaves is sound: definitions in specs/, laws in proofs/. Nothing here runs.

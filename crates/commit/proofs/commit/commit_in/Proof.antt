@@ -3,7 +3,7 @@
 use borrow.Author.Needs.{needs}
 use mathlib.Core.Path.{_≡_, sym, _∙_}
 use native.Mathlib.Omega.{arith}
-use Rattle.batch.proofs.Noted.{noted-as}
+use Rattle.batch.proofs.Noted.{noted-none, noted-as}
 use Rattle.batch.proofs.Turning.{turn-count, turn-new-at}
 use Rattle.batch.specs.NewKeys.{newCount, newAt}
 use Rattle.batch.specs.Notes.{Noted}
@@ -22,7 +22,7 @@ in-order : (c : tie.After-order-new-keys)
 in-order c =
     let a = c .before .before .before .before .before .before .before .before .before .before .before .before .before .args in
     let live = isLive (a .s) (a .image .now) in
-    let turned = c .before .before .before .before .take-turns .ensures .0 in
+    let turned = c .before .before .before .take-turns .ensures .0 in
     let told = c .order-new-keys .ensures in
     (noted-as (told .1) (λ k l. turn-new-at (a .s .layout) live (a .batch .now) _ turned k), told .0 ∙ turn-count (a .s .layout) live (a .batch .now) _ turned)
 
@@ -43,14 +43,17 @@ hash-keys-requires c κs = let a = c .before .before .before .before .before .ar
 slice-aggregate-take-turns : tie.Need-slice-aggregate-take-turns
 slice-aggregate-take-turns c = search needs
 
+slice-aggregate-take-turns-2 : tie.Need-slice-aggregate-take-turns-2
+slice-aggregate-take-turns-2 c = search needs
+
 take-turns-requires : tie.Need-take-turns-requires
-take-turns-requires c κs = (c .before .before .before .before .before .before .before .before .pre .0, c .before .before .hash-keys .ensures)
+take-turns-requires c κs = (c .before .before .before .before .before .before .before .before .before .pre .0, (c .before .before .before .hash-keys .ensures, noted-none _))
 
 slice-aggregate-order-new-keys : tie.Need-slice-aggregate-order-new-keys
 slice-aggregate-order-new-keys c = search needs
 
 order-new-keys-requires : tie.Need-order-new-keys-requires
-order-new-keys-requires c κs = (search needs, (_, c .before .before .before .take-turns .ensures .0))
+order-new-keys-requires c κs = (search needs, (_, c .before .before .take-turns .ensures .0))
 
 slice-aggregate-room-test : tie.Need-slice-aggregate-room-test
 slice-aggregate-room-test c = search needs
@@ -84,6 +87,7 @@ apply-requires c κs =
     let b = c .before .before .before .before .before .before .before .before .before .before .before .before .before .before .before .before .before .before .before .before .before .before .before in
     let a = b .args in
     let o = in-order (c .before .before .before .before .before .before .before .before .before .before) in
+    let noted = c .before .before .before .before .before .before .before .before .before .before .before .before .before .take-turns .ensures in
     let none = sym (room-decides (a .s) (a .image .now) (a .batch .now) (c .before .before .before .before .before .before .before .before .before .before .before .before .before .before .before .before .before .before .before .sound-test .ensures) (c .before .before .before .before .before .before .before .before .before .before .before .before .before .before .before .before .before .before .if1 .left) (c .before .before .before .before .before .before .room-test .ensures)) ∙ c .before .before .before .before .before .if2 .left in
     let further = further-facts (a .s) (a .image .now) (a .batch .now) none in (
       b .pre .0,
@@ -91,8 +95,8 @@ apply-requires c κs =
         b .pre .1,
         record {
           hashed = c .before .before .before .before .before .before .before .before .before .before .before .before .before .before .before .before .before .hash-keys .ensures;
-          turned = c .before .before .before .before .before .before .before .before .before .before .before .before .before .before .take-turns .ensures .0;
-          placed = c .before .before .before .before .before .before .before .before .before .before .before .before .before .before .take-turns .ensures .1;
+          turned = noted .0;
+          placed = noted .1;
           ordered = o .0;
           counted = o .1;
           room = omega (arith, further .room, b .pre .0 .highwater, o .1);
@@ -120,6 +124,7 @@ commit-in-spec =
     returns
     hash-keys-requires
     slice-aggregate-take-turns
+    slice-aggregate-take-turns-2
     take-turns-requires
     slice-aggregate-order-new-keys
     order-new-keys-requires
