@@ -35,7 +35,7 @@ use Rattle.writing.specs.Write.{Written}
 use Rattle.writing.specs.Create.{createTests, freshFields, fresh, createOf}
 use Rattle.writing.specs.State.{writingTests, userTests, invalidateTests, beginOf, checkpointOf, invalidateOf, setUserFieldsOf}
 use Rattle.writing.proofs.Answers.{answers}
-use Rattle.writing.proofs.Bytes.{value-bound}
+use Rattle.writing.proofs.Values.{value-bound}
 use Rattle.writing.proofs.Fresh.{fresh-header, fresh-length, fresh-value}
 use Rattle.writing.proofs.Lasting.{Kept}
 use Rattle.writing.proofs.LastingTable.{kept-shape}

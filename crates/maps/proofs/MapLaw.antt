@@ -17,7 +17,7 @@ use Rattle.header.specs.Fields.{value}
 use Rattle.header.specs.FirstOf.{firstOf}
 use Rattle.header.specs.HeaderTest.{shapeOf}
 use Rattle.image.specs.Lookup.{isLive}
-use Rattle.writing.proofs.Bytes.{Bytes}
+use Rattle.numbers.specs.Bytes.{Bytes}
 use Rattle.slots.proofs.Table.Around.{around-generation, around-shape}
 use Rattle.batch.specs.Batch.{recordCount, recordAt, metaIn, recordKey}
 use Rattle.batch.specs.NewKeys.{newCount, rank, newAt}

@@ -1,3 +1,4 @@
+pub mod Bytes
 pub mod Compare
 pub mod EqualWords
 pub mod Product
@@ -5,3 +6,4 @@ pub mod Put
 pub mod Signed
 pub mod Word
 pub mod PutPart
+pub mod Zeros

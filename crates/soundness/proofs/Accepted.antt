@@ -22,7 +22,8 @@ use Rattle.header.proofs.Fit.{judged-fit, fit-shaped}
 use Rattle.header.proofs.PassedTests.{length-passed, role-passed}
 use Rattle.image.specs.Check.{passes}
 use Rattle.writing.specs.State.{writingTests, cleanTest, generationTest, userTests}
-use Rattle.writing.proofs.Bytes.{Bytes, value-bound}
+use Rattle.numbers.specs.Bytes.{Bytes}
+use Rattle.writing.proofs.Values.{value-bound}
 use Rattle.writing.proofs.MoreTests.{change-writing, change-clean, change-generation, not-last}
 use Rattle.writing.proofs.Tests.{Holds, even-passed, state-passed, header-holds, not-invalidated}
 use Rattle.batch.specs.Batch.{batchWrong}

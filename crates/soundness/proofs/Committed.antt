@@ -21,7 +21,7 @@ use Rattle.header.specs.Open.{userFields}
 use Rattle.image.specs.Table.{metaOf, keyOf}
 use Rattle.image.specs.Check.{passes}
 use Rattle.image.proofs.FullCheck.{Whole, passes-whole}
-use Rattle.writing.proofs.Bytes.{Bytes}
+use Rattle.numbers.specs.Bytes.{Bytes}
 use Rattle.writing.proofs.Tests.{header-holds}
 use Rattle.slots.proofs.Table.Around.{around-generation, around-shape, SameSlot, same-slot-then}
 use Rattle.slots.proofs.Table.Appended.{Holds, holds-then}

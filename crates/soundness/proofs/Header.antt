@@ -8,7 +8,7 @@ use native.Mathlib.Omega.{arith}
 use lib.Dec.{T}
 use lib.ListN.{length}
 use borrow.Author.Tests.{eq-eqb, ne-eqb, le-leb}
-use Rattle.numbers.specs.Bytes.{word}
+use Rattle.numbers.specs.Bytes.{Bytes, word}
 use Rattle.header.specs.declared.options.Options.{Options}
 use Rattle.header.specs.declared.shape.Shape.{Shape}
 use Rattle.header.specs.Fields as F
@@ -19,7 +19,6 @@ use Rattle.header.specs.HeaderTest.{test2, test3, test4, test5, test6, test8, t
 use Rattle.header.specs.Open.{userFields}
 use Rattle.header.specs.Shaped.{Shaped}
 use Rattle.image.specs.Table.{tableOf}
-use Rattle.writing.proofs.Bytes.{Bytes}
 use Rattle.writing.proofs.OneField.{apart}
 use Rattle.writing.proofs.FieldList.{misses}
 use Rattle.writing.proofs.Tests.{Holds, even-passed, header-by-state}

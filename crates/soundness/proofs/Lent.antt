@@ -5,14 +5,14 @@ use mathlib.Core.Bool.{Bool, true, false, cond, not, _&&_}
 use mathlib.Core.List.{List}
 use lib.Dec.{eqb, ltb}
 use lib.ListN.{drop}
-use Rattle.numbers.specs.Bytes.{part}
+use Rattle.numbers.specs.Bytes.{Bytes, part}
 use Rattle.probing.specs.Table.{tombstoneCount}
 use Rattle.probing.specs.Probe.{Probed, found, absent, broken}
 use Rattle.header.specs.declared.shape.Shape.{Shape}
 use Rattle.image.specs.Table.{tableOf}
 use Rattle.image.specs.Lookup.{probeOf, isLive}
 use Rattle.slots.specs.Slots.{rebuilt}
-use Rattle.writing.proofs.Bytes.{Bytes, take-bytes, drop-bytes}
+use Rattle.numbers.proofs.Bytes.{take-bytes, drop-bytes}
 use Rattle.slots.proofs.Table.Lent.{rewritten-lent, removed-lent, appended-lent, rebuilt-lent, counted-lent}
 use Rattle.batch.specs.Batch.{recordCount, recordAt, metaIn, recordKey, decides}
 use Rattle.batch.specs.NewKeys.{isNew, newCount, newAt}

@@ -7,7 +7,7 @@ use native.Mathlib.Omega.{arith}
 use borrow.Author.Tests.{ne-eqb}
 use lib.Dec.{T}
 use lib.ListN.{length}
-use Rattle.numbers.specs.Bytes.{bytesOf}
+use Rattle.numbers.specs.Bytes.{Bytes, bytesOf}
 use Rattle.digests.specs.Crc.{headerCrc}
 use Rattle.header.specs.declared.options.Options.{Options}
 use Rattle.header.specs.Fields as F
@@ -16,7 +16,7 @@ use Rattle.header.specs.FirstOf.{firstOf}
 use Rattle.header.specs.State.{CLEAN, INVALIDATED, DIRTY, withRole}
 use Rattle.header.specs.HeaderTest.{headerTest}
 use Rattle.writing.specs.Write.{withField, withFields, sealed}
-use Rattle.writing.proofs.Bytes.{Bytes, put-bytes, bytes-of-bytes}
+use Rattle.numbers.proofs.Bytes.{put-bytes, bytes-of-bytes}
 use Rattle.writing.proofs.FieldList.{Fitting, after, fields-length, fields-value}
 use Rattle.writing.proofs.Seal.{seal-other, seal-crc}
 use Rattle.writing.proofs.Tests.{even-passed, crc-passed, state-passed, header-holds, stateTests}

@@ -7,9 +7,9 @@ use native.Mathlib.Omega.{arith}
 use lib.Bits.{bitXor, xor-lt}
 use lib.Dec.{eqb, lit<}
 use lib.ListN.{take, replicate}
-use Rattle.numbers.specs.Bytes.{put}
+use Rattle.numbers.specs.Bytes.{Bytes, put}
 use Rattle.digests.specs.Crc.{crcBit, crcBits, crcFrom, crc32c, headerCrc}
-use Rattle.writing.proofs.Bytes.{Bytes, put-bytes, take-bytes, replicate-bytes}
+use Rattle.numbers.proofs.Bytes.{put-bytes, take-bytes, replicate-bytes}
 
 bit-bound : (c : ℕ) → c < 2 ^ 32 → crcBit c < 2 ^ 32
 unfolding crcBit

@@ -6,7 +6,7 @@ use mathlib.Core.List.{List}
 use native.Mathlib.Omega.{arith}
 use lib.Dec.{T, lit<}
 use lib.ListN.{length, replicate, length-replicate}
-use Rattle.numbers.specs.Bytes.{part, word}
+use Rattle.numbers.specs.Bytes.{Bytes, part, word}
 use Rattle.digests.specs.Crc.{headerCrc}
 use Rattle.header.specs.declared.options.Options.{Options}
 use Rattle.header.specs.Fields as F
@@ -23,11 +23,11 @@ use Rattle.writing.specs.Write.{withFields}
 use Rattle.writing.specs.Create.{freshFields, fresh}
 use Rattle.writing.proofs.OneField.{Fits, apart, in-header}
 use Rattle.writing.proofs.FieldList.{Fitting, after, misses, fields-length, fields-value, fields-bytes, fields-behind}
-use Rattle.writing.proofs.Bytes.{Bytes, replicate-bytes}
+use Rattle.numbers.proofs.Bytes.{replicate-bytes}
 use Rattle.writing.proofs.Seal.{seal-length, seal-bytes, seal-other, seal-behind, seal-crc}
 use Rattle.writing.proofs.Tests.{header-by-state}
 use Rattle.writing.proofs.Became.{fields-are-bytes, sealed-is-bytes}
-use Rattle.writing.proofs.Zeros.{word-zeros, part-zeros}
+use Rattle.numbers.proofs.Zeros.{word-zeros, part-zeros}
 use Rattle.writing.proofs.FreshTests.{fresh-holds}
 use Rattle.writing.proofs.Making.{total-low}
 

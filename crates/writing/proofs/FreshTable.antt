@@ -22,7 +22,7 @@ use Rattle.image.specs.Table.{bucketAt, bucketFrom, bucketOf, tableOf}
 use Rattle.writing.specs.Create.{freshFields, fresh}
 use Rattle.writing.proofs.OneField.{Fits, apart}
 use Rattle.writing.proofs.FieldList.{after}
-use Rattle.writing.proofs.Zeros.{word-zeros}
+use Rattle.numbers.proofs.Zeros.{word-zeros}
 use Rattle.writing.proofs.Fresh.{fresh-value, fresh-behind}
 
 -- "header CLEAN, generation and counters 0", and the sizes as the options say

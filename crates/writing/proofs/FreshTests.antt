@@ -22,7 +22,7 @@ use Rattle.writing.specs.Create.{freshFields}
 use Rattle.writing.proofs.OneField.{apart}
 use Rattle.writing.proofs.FieldList.{after}
 use Rattle.writing.proofs.Tests.{Holds}
-use Rattle.writing.proofs.Zeros.{all-zeros}
+use Rattle.numbers.proofs.Zeros.{all-zeros}
 use Rattle.writing.proofs.Making.{total-low}
 
 abbrev offset : Options → ℕ

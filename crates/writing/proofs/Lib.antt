@@ -1,6 +1,6 @@
 pub mod OneField
 pub mod FieldList
-pub mod Bytes
+pub mod Values
 pub mod CrcBound
 pub mod Seal
 pub mod Tests
@@ -15,7 +15,6 @@ pub mod MoreTests
 pub mod Became
 pub mod StateLaws
 pub mod UserLaws
-pub mod Zeros
 pub mod FreshTests
 pub mod Fresh
 pub mod FreshTable

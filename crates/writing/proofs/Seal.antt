@@ -6,13 +6,12 @@ use mathlib.Core.List.{List, _++_}
 use lib.Dec.{T, lit≤}
 use lib.ListN.{length}
 use lib.Seq.{take-append-le}
-use Rattle.numbers.specs.Bytes.{part}
+use Rattle.numbers.specs.Bytes.{Bytes, part}
 use Rattle.digests.specs.Crc.{headerCrc}
 use Rattle.digests.proofs.Header.{header-states}
 use Rattle.header.specs.Fields as F
 use Rattle.header.specs.Fields.{bytesIn, value}
 use Rattle.writing.specs.Write.{withField, sealed}
-use Rattle.writing.proofs.Bytes.{Bytes}
 use Rattle.writing.proofs.CrcBound.{header-crc-bound}
 use Rattle.writing.proofs.OneField.{apart, field-length, field-before, field-after, field-behind, field-bytes, field-other, field-same, field-append}
 

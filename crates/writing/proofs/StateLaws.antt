@@ -18,7 +18,8 @@ use Rattle.header.proofs.Firsts.{first-none}
 use Rattle.writing.specs.Write.{withField, withFields, sealed}
 use Rattle.writing.specs.State.{writingTests, generationTest, invalidateTests, inState, published, beginOf, checkpointOf, invalidateOf}
 use Rattle.writing.proofs.Answers.{answers, accepted}
-use Rattle.writing.proofs.Bytes.{Bytes, value-bound}
+use Rattle.numbers.specs.Bytes.{Bytes}
+use Rattle.writing.proofs.Values.{value-bound}
 use Rattle.writing.proofs.Became.{Became, became-written, became-same}
 use Rattle.writing.proofs.OneField.{Fits}
 use Rattle.writing.proofs.Tests.{even-passed, header-holds}

@@ -8,7 +8,7 @@ use native.Mathlib.Omega.{arith}
 use borrow.Author.Tests.{eqb-false}
 use lib.Dec.{T, eqb, lit≤}
 use lib.ListN.{length}
-use Rattle.numbers.specs.Bytes.{word, bytesOf, put}
+use Rattle.numbers.specs.Bytes.{Bytes, word, bytesOf, put}
 use Rattle.header.specs.declared.options.Options.{Options}
 use Rattle.header.specs.declared.open.UserFields.{UserFields}
 use Rattle.header.specs.Fields as F
@@ -22,7 +22,8 @@ use Rattle.writing.specs.Write.{withField, withFields, sealed, unless}
 use Rattle.writing.specs.State.{writingTests, cleanTest, userTests, published, inState, beginOf, checkpointOf, withUserData, setUserFieldsOf}
 use Rattle.writing.proofs.OneField.{Fits, apart, field-length, field-bytes}
 use Rattle.writing.proofs.FieldList.{Fitting, after, fields-length, fields-value}
-use Rattle.writing.proofs.Bytes.{Bytes, word-bound, bytes-word, value-bytes}
+use Rattle.numbers.proofs.Bytes.{word-bound, bytes-word}
+use Rattle.writing.proofs.Values.{value-bytes}
 use Rattle.writing.proofs.Seal.{seal-bytes, seal-other}
 use Rattle.writing.proofs.Tests.{state-passed, header-holds, not-invalidated}
 use Rattle.writing.proofs.Answers.{answers, accepted}

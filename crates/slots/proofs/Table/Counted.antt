@@ -6,7 +6,7 @@ use mathlib.Core.List.{List, [], _∷_}
 use native.Mathlib.Omega.{arith}
 use lib.Dec.{T}
 use lib.ListN.{length}
-use Rattle.numbers.specs.Bytes.{part}
+use Rattle.numbers.specs.Bytes.{Bytes, part}
 use Rattle.digests.specs.Crc.{headerCrc}
 use Rattle.header.specs.declared.shape.Shape.{Shape}
 use Rattle.header.specs.Fields as F
@@ -18,7 +18,6 @@ use Rattle.image.specs.Table.{slotAt, bucketAt, bucketOf, tableOf}
 use Rattle.writing.specs.Write.{withFields}
 use Rattle.writing.specs.State.{published}
 use Rattle.slots.specs.Slots.{counted}
-use Rattle.writing.proofs.Bytes.{Bytes}
 use Rattle.writing.proofs.OneField.{apart}
 use Rattle.writing.proofs.FieldList.{Fitting, after, misses, fields-length, fields-value, fields-behind, fields-bytes}
 use Rattle.writing.proofs.Seal.{seal-length, seal-behind, seal-bytes, seal-other, seal-crc}

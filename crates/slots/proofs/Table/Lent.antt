@@ -5,7 +5,7 @@ use mathlib.Core.Bool.{Bool, true, false, cond}
 use mathlib.Core.List.{List, [], _∷_, _++_}
 use lib.Dec.{eqb}
 use lib.ListN.{replicate}
-use Rattle.numbers.specs.Bytes.{part, bytesOf, put}
+use Rattle.numbers.specs.Bytes.{Bytes, part, bytesOf, put}
 use Rattle.digests.specs.Crc.{headerCrc}
 use Rattle.digests.specs.Fnv.{fnv1a64}
 use Rattle.probing.specs.Change.{place}
@@ -17,7 +17,7 @@ use Rattle.image.specs.Table.{all-ones, slotAt, revisionAt, bucketAt, metaOf, k
 use Rattle.writing.specs.Write.{withField, withFields, sealed}
 use Rattle.writing.specs.State.{published}
 use Rattle.slots.specs.Slots.{rewritten, removed, indexed, appended, rebuiltTo, rebuilt, counted}
-use Rattle.writing.proofs.Bytes.{Bytes, append-bytes, take-bytes, drop-bytes, replicate-bytes, put-bytes, bytes-of-bytes}
+use Rattle.numbers.proofs.Bytes.{append-bytes, take-bytes, drop-bytes, replicate-bytes, put-bytes, bytes-of-bytes}
 
 pub rewritten-lent : (s : Shape) (image : List ℕ) (n : ℕ) (bytes : List ℕ) → Bytes image → Bytes bytes → Bytes (rewritten (s .layout) image n bytes)
 unfolding rewritten part

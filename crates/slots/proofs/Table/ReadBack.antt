@@ -13,7 +13,7 @@ use Rattle.numbers.specs.Bytes.{part, word, bytesOf, put}
 use Rattle.numbers.proofs.Put.{length-part}
 use Rattle.numbers.proofs.PutPart.{getD-part, part-put-in, length-bytes, word-bytes}
 use Rattle.digests.specs.Fnv.{fnvFrom, fnv1a64}
-use Rattle.writing.proofs.Zeros.{part-zeros}
+use Rattle.numbers.proofs.Zeros.{part-zeros}
 
 -- a part of a part is a part
 pub part-part : (s : List ℕ) (a n j m : ℕ) → a + n ≤ length s → j + m ≤ n → part (part s a n) j m ≡ part s (a + j) m

@@ -9,7 +9,7 @@ use Rattle.header.proofs.Fit.{judged-fit, fit-shaped}
 use Rattle.writing.specs.Write.{Written}
 use Rattle.writing.specs.State.{userTests}
 use Rattle.writing.proofs.Answers.{says-refused}
-use Rattle.writing.proofs.Bytes.{Bytes}
+use Rattle.numbers.specs.Bytes.{Bytes}
 use Rattle.writing.proofs.StateLaws.{next-fits}
 use Rattle.writing.proofs.Verdicts.{told-passed, told-shape, told-number}
 use Rattle.writing.proofs.MoreTests.{change-writing, change-generation}

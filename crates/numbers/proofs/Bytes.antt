@@ -1,6 +1,6 @@
 -- Lists that hold bytes, as every list that code lends does: parts, puts and words of them.
 -- Assumes nothing.
-use Prim.Native.Nat.{ℕ, zero, suc, _+_, _*_, _%_, _/_, _^_, _≤_, _<_}
+use Prim.Native.Nat.{ℕ, zero, suc, _+_, _*_, _%_, _/_, _^_, _<_}
 use mathlib.Core.Path.{_≡_, refl, ap}
 use mathlib.Core.List.{List, [], _∷_, _++_}
 use native.Mathlib.Nat.{mod-lt, pow-succ'}
@@ -8,11 +8,7 @@ use native.Mathlib.Omega.{arith}
 use lib.Dec.{lit<}
 use lib.ListN.{length, take, drop, replicate}
 use lib.Seq.{getD-drop}
-pub use Rattle.numbers.specs.Bytes.{Bytes}
-use Rattle.numbers.specs.Bytes.{part, word, bytesOf, put}
-use Rattle.numbers.proofs.Put.{length-part}
-use Rattle.header.specs.Fields.{bytesIn, value, fieldOf}
-use Rattle.writing.proofs.OneField.{Fits, in-header}
+use Rattle.numbers.specs.Bytes.{Bytes, word, bytesOf, put}
 
 -- bytes in a list, and in another put into it, are bytes
 pub append-bytes : (a b : List ℕ) → Bytes a → Bytes b → Bytes (a ++ b)
@@ -63,23 +59,3 @@ bytes-word (b ∷ s) h =
     let low : (b + 256 * word s) % 256 ≡ b = omega (arith, h 0) in
     let high : (b + 256 * word s) / 256 ≡ word s = omega (arith, h 0) in
     rw (low, high) (ap (λ (l : List ℕ). b ∷ l) (bytes-word s (λ i. h (suc i))))
-
-module _ (image : List ℕ) (h : Bytes image) (long : 256 ≤ length image) (name : ℕ) where
-  field-size : length (bytesIn image name) ≡ fieldOf name .width
-  unfolding bytesIn
-  field-size = length-part image (fieldOf name .offset) (fieldOf name .width) (omega (arith, in-header name))
-
-  field-holds : Bytes (bytesIn image name)
-  unfolding bytesIn part
-  field-holds =
-      take-bytes (fieldOf name .width) (drop (fieldOf name .offset) image) (drop-bytes (fieldOf name .offset) image h)
-
-  -- the value of a field is one that it can hold
-  pub value-bound : Fits name (value image name)
-  unfolding value
-  value-bound = rw field-size at (word-bound (bytesIn image name) field-holds)
-
-  -- and says which bytes the field has
-  pub value-bytes : bytesOf (fieldOf name .width) (value image name) ≡ bytesIn image name
-  unfolding value
-  value-bytes = rw field-size at (bytes-word (bytesIn image name) field-holds)
