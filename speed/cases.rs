@@ -3,11 +3,13 @@
 use std::ops::Range;
 
 use crate::ordinary::commit::Plan;
+use crate::ordinary::digests::OneTable;
 use crate::ordinary::header::{set_buckets, Header};
 use crate::ordinary::layout::{put_u64, Layout, Options, KEY_AT};
-use crate::sides::begun_image;
+use crate::sides::{begun_image, set_user_fields};
 
 pub const LOCK_HELD: u64 = 2;
+pub const KEY_SIZE: usize = 12;
 
 /// Numbers that look random and are the same in every run (splitmix64).
 pub struct Random(pub u64);
@@ -52,9 +54,9 @@ fn serials(numbers: Range<usize>) -> Vec<Vec<u8>> {
     numbers.map(serial).collect()
 }
 
-/// 12 bytes, above every serial, as an ordered image asks of new keys.
+/// A key above every serial, as an ordered image asks of new keys.
 fn random_key(random: &mut Random) -> Vec<u8> {
-    let mut key: Vec<u8> = (0..12).map(|_| random.next() as u8).collect();
+    let mut key: Vec<u8> = (0..KEY_SIZE).map(|_| random.next() as u8).collect();
     key[0] |= 0x80;
     key
 }
@@ -123,7 +125,7 @@ pub struct Image {
 impl Image {
     pub fn of(shape: &Shape, ordered: bool) -> Image {
         let options = Options {
-            key_size: 12,
+            key_size: KEY_SIZE as u64,
             index_size: 20,
             slot_capacity: shape.slot_capacity,
             user_version: 1,
@@ -141,6 +143,25 @@ impl Image {
             layout,
             live,
         }
+    }
+
+    /// So many keys to look up, one behind the other, in any order: live ones, or such as are not there.
+    pub fn asked(&self, found: bool, count: usize) -> Vec<u8> {
+        let mut random = Random(count as u64);
+        let Range { start, end } = self.live;
+        let (from, many) = if found {
+            (start, end - start)
+        } else {
+            (end, 5_000_000)
+        };
+        (0..count)
+            .flat_map(|_| serial(from + random.below(many)))
+            .collect()
+    }
+
+    /// All of them set, or all zero.
+    pub fn set_user_fields(&mut self, set: bool) {
+        set_user_fields(&mut self.bytes, &self.options, set);
     }
 
     /// A batch of count new keys.
@@ -162,7 +183,7 @@ impl Image {
 /// Puts any number of records at once, without a commit's tests: a large image is not filled in batches, each with a
 /// full check.
 fn load(image: &mut [u8], options: &Options, batch: &[u8]) {
-    let header = Header::judge(image, options)
+    let header = Header::judge::<OneTable>(image, options)
         .map_err(|number| format!("header test: {number}"))
         .unwrap();
     Plan::of(image, &header, batch).act(image, header);

@@ -35,6 +35,12 @@ impl Spread {
         }
     }
 
+    /// Low quartile, median and high quartile, with tabs between them.
+    pub fn values(&self, digits: usize) -> String {
+        let [low, median, high] = [self.low, self.median, self.high];
+        format!("{low:.digits$}\t{median:.digits$}\t{high:.digits$}")
+    }
+
     pub fn text(&self, digits: usize) -> String {
         let [low, median, high] = [self.low, self.median, self.high];
         format!("{median:.digits$} ({low:.digits$} to {high:.digits$})")

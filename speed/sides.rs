@@ -2,6 +2,9 @@
 //! place of the ordinary one, the library of another revision.
 
 use crate::ordinary::layout::{Layout, Options};
+use crate::ordinary::lookup::Lookup;
+
+pub type LookupCall = fn(&[u8], &Options, &[u8]) -> Lookup;
 
 pub struct Side {
     pub commit: fn(&mut [u8], &Options, &[u8]) -> u32,
@@ -32,6 +35,8 @@ calls! {
     slc1_begin(image: *mut u8);
     slc1_full_check(image: *const u8);
     slc1_commit(image: *mut u8, batch: *const u8, batch_length: usize);
+    slc1_lookup_results(image: *const u8, key: *const u8, key_length: usize, results: *mut u64, count: usize);
+    slc1_set_user_fields(image: *mut u8, user_flags: u64, user_data: *const u8, data_length: usize);
 }
 
 // Of the library of another revision, to whose calls tools/speed gives these names.
@@ -39,6 +44,7 @@ calls! {
 calls! {
     beside_full_check(image: *const u8);
     beside_commit(image: *mut u8, batch: *const u8, batch_length: usize);
+    beside_lookup_results(image: *const u8, key: *const u8, key_length: usize, results: *mut u64, count: usize);
 }
 
 /// Makes such a call.
@@ -82,6 +88,73 @@ const OTHER: Side = Side {
     commit: crate::ordinary::commit::commit,
     full_check: crate::ordinary::check::full_check,
 };
+
+/// A lookup by such a call, which writes its numbers to a list.
+macro_rules! lookup_by {
+    ($name:ident) => {
+        |image, options, key| {
+            let mut results = [0; 4];
+            let answer = call!(
+                $name,
+                image.as_ptr(),
+                image.len(),
+                options,
+                key.as_ptr(),
+                key.len(),
+                results.as_mut_ptr(),
+                results.len()
+            );
+            let [_, slot, revision, buckets] = results;
+            Lookup {
+                answer,
+                slot,
+                revision: revision as i64,
+                buckets,
+            }
+        }
+    };
+}
+
+/// Those whose lookups are timed, the library first.
+#[cfg(beside)]
+pub fn lookups() -> Vec<(&'static str, LookupCall)> {
+    vec![
+        ("library", lookup_by!(slc1_lookup_results)),
+        (BESIDE, lookup_by!(beside_lookup_results)),
+    ]
+}
+
+/// Those whose lookups are timed: the library, and the ordinary one with each CRC.
+#[cfg(not(beside))]
+pub fn lookups() -> Vec<(&'static str, LookupCall)> {
+    use crate::ordinary::digests::{has_instruction, EightTables, Instruction, OneTable};
+    use crate::ordinary::lookup::lookup;
+    let mut all: Vec<(&'static str, LookupCall)> = vec![
+        ("library", lookup_by!(slc1_lookup_results)),
+        ("one table", lookup::<OneTable>),
+        ("eight tables", lookup::<EightTables>),
+    ];
+    if has_instruction() {
+        all.push(("CRC instruction", lookup::<Instruction>));
+    }
+    all
+}
+
+/// Sets user_flags and all of user_data, or makes them zero, by the library.
+pub fn set_user_fields(image: &mut [u8], options: &Options, set: bool) {
+    let flags = 0x0123456789ABCDEF * u64::from(set);
+    let data: Vec<u8> = (1..=64).map(|number| 3 * number * u8::from(set)).collect();
+    let answer = call!(
+        slc1_set_user_fields,
+        image.as_mut_ptr(),
+        image.len(),
+        options,
+        flags,
+        data.as_ptr(),
+        data.len()
+    );
+    assert_eq!(answer, 0, "set user fields");
+}
 
 /// A fresh image, DIRTY, by the library.
 pub fn begun_image(options: &Options) -> Vec<u8> {

@@ -1,21 +1,27 @@
 //! The probe for a key, and the full check.
 
-use super::digests::fnv1a64;
+use super::digests::{fnv1a64, OneTable};
 use super::header::{Header, DONE, NEEDS_REBUILD};
 use super::layout::{u64_at, Options, EMPTY, TOMBSTONE};
 
 pub enum Probe {
-    Found { slot: usize, bucket: usize },
-    Absent,
+    Found {
+        slot: usize,
+        bucket: usize,
+        examined: usize,
+    },
+    Absent {
+        examined: usize,
+    },
     Broken,
 }
 
 pub fn probe(image: &[u8], header: &Header, key: &[u8], hash: u64) -> Probe {
     let layout = &header.layout;
     let mut bucket = layout.home(hash);
-    for _ in 0..layout.bucket_count {
+    for examined in 1..=layout.bucket_count {
         match layout.bucket(image, bucket) {
-            (_, EMPTY) => return Probe::Absent,
+            (_, EMPTY) => return Probe::Absent { examined },
             (_, TOMBSTONE) => {}
             (hash64, slot_plus1) => {
                 let slot = (slot_plus1 - 1) as usize;
@@ -25,7 +31,11 @@ pub fn probe(image: &[u8], header: &Header, key: &[u8], hash: u64) -> Probe {
                 let bytes = layout.slot(image, slot);
                 if hash64 == hash && layout.key_in(bytes) == key {
                     return if u64_at(bytes, 0) == 1 {
-                        Probe::Found { slot, bucket }
+                        Probe::Found {
+                            slot,
+                            bucket,
+                            examined,
+                        }
                     } else {
                         Probe::Broken
                     };
@@ -94,7 +104,7 @@ pub fn passes(image: &[u8], header: &Header) -> bool {
 
 #[inline(never)]
 pub fn full_check(image: &[u8], options: &Options) -> u32 {
-    match Header::judge(image, options) {
+    match Header::judge::<OneTable>(image, options) {
         Ok(header) if passes(image, &header) => DONE,
         Ok(_) => NEEDS_REBUILD,
         Err(number) => number,

@@ -114,7 +114,7 @@ impl<'a> Plan<'a> {
         for record in deciding {
             match probe(image, header, record.key.bytes, record.key.hash) {
                 Probe::Found { slot, .. } if record.is_put() => plan.puts.push((slot, record)),
-                Probe::Found { slot, bucket } => plan.deletes.push((slot, bucket, record)),
+                Probe::Found { slot, bucket, .. } => plan.deletes.push((slot, bucket, record)),
                 _ if record.is_put() => plan.new.push(record),
                 _ => {}
             }

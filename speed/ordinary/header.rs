@@ -1,6 +1,6 @@
 //! The header: its test, and its fields as a commit reads and writes them.
 
-use super::digests::crc32c;
+use super::digests::{Crc32c, OneTable};
 use super::layout::{
     put_u64, u32_at, u64_at, Layout, Options, BUCKET_LIMIT, CAPACITY_LIMIT, HEADER_SIZE,
 };
@@ -13,6 +13,7 @@ pub const BUSY: u32 = 4;
 pub const FULL: u32 = 5;
 pub const OUT_OF_ORDER: u32 = 6;
 pub const INVALID_INPUT: u32 = 7;
+pub const NOT_PRESENT: u32 = 9;
 pub const CREATE_IT: u32 = 10;
 
 const STATE_CLEAN: u32 = 0;
@@ -61,17 +62,17 @@ fn refuse_if(wrong: bool, number: u32) -> Result<(), u32> {
     }
 }
 
-fn header_crc(image: &[u8]) -> u32 {
+fn header_crc<C: Crc32c>(image: &[u8]) -> u32 {
     let mut header = [0; HEADER_SIZE];
     header.copy_from_slice(&image[..HEADER_SIZE]);
     header[GENERATION_AT..GENERATION_AT + 8].fill(0);
     header[HEADER_CRC32C_AT..HEADER_CRC32C_AT + 4].fill(0);
-    crc32c(&header)
+    C::of(&header)
 }
 
 /// Writes the CRC.
 fn seal(image: &mut [u8]) {
-    let crc = header_crc(image);
+    let crc = header_crc::<OneTable>(image);
     image[HEADER_CRC32C_AT..HEADER_CRC32C_AT + 4].copy_from_slice(&crc.to_le_bytes());
 }
 
@@ -83,7 +84,7 @@ pub fn set_buckets(image: &mut Vec<u8>, layout: &Layout) {
 }
 
 /// Tests 3 to 7: what the header says by itself.
-fn written_test(image: &[u8], options: &Options) -> Result<(), u32> {
+fn written_test<C: Crc32c>(image: &[u8], options: &Options) -> Result<(), u32> {
     let known_format = image.starts_with(b"SLC1")
         && u32_at(image, VERSION_AT) == 1
         && u32_at(image, HEADER_SIZE_AT) as usize == HEADER_SIZE
@@ -97,7 +98,7 @@ fn written_test(image: &[u8], options: &Options) -> Result<(), u32> {
         });
     }
     let crc = u32_at(image, HEADER_CRC32C_AT);
-    refuse_if(crc != header_crc(image), NEEDS_REBUILD)?;
+    refuse_if(crc != header_crc::<C>(image), NEEDS_REBUILD)?;
     let reserved = &image[RESERVED_AT..HEADER_SIZE];
     let unknown = u32_at(image, FLAGS_AT) > 1
         || reserved.iter().any(|&byte| byte != 0)
@@ -145,12 +146,12 @@ fn extent_test(image: &[u8], layout: &Layout) -> Result<(), u32> {
 }
 
 impl Header {
-    /// The header test, in the specification's order.
-    pub fn judge(image: &[u8], options: &Options) -> Result<Header, u32> {
+    /// The header test, in the specification's order, its CRC in one of the ways.
+    pub fn judge<C: Crc32c>(image: &[u8], options: &Options) -> Result<Header, u32> {
         refuse_if(!options.allowed(), INVALID_INPUT)?;
         refuse_if(image.is_empty(), CREATE_IT)?;
         refuse_if(image.len() < HEADER_SIZE, NEEDS_REBUILD)?;
-        written_test(image, options)?;
+        written_test::<C>(image, options)?;
         let layout = layout_test(image, options)?;
         extent_test(image, &layout)?;
         let state = u32_at(image, STATE_AT);
@@ -168,7 +169,7 @@ impl Header {
 
     /// The header test, and the tests of role, state and generation that come next where fields are changed.
     pub fn judge_change(image: &[u8], options: &Options) -> Result<Header, u32> {
-        let header = Header::judge(image, options)?;
+        let header = Header::judge::<OneTable>(image, options)?;
         refuse_if(options.role == ANOTHER_WRITER, BUSY)?;
         refuse_if(options.role == NO_WRITER_KNOWN, INVALID_INPUT)?;
         refuse_if(header.state == STATE_CLEAN, INVALID_INPUT)?;
