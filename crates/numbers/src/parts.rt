@@ -1,7 +1,7 @@
 // Slices, and parts of slices, compared, copied and cleared.
 ghost use mathlib.Core.Path.{_≡_};
-ghost use Prim.Native.Nat.{_+_, _/_, _≤_, min};
-ghost use lib.ListN.{length, replicate};
+ghost use Prim.Native.Nat.{_+_, _*_, _/_, _≤_, min};
+ghost use lib.ListN.{length, take, replicate};
 ghost use Rattle.numbers.specs.Bytes.{same, below, allZero, put};
 ghost use Rattle.numbers.specs.EqualWords.{EqualWords};
 use crate::words::u64_at;
@@ -73,11 +73,30 @@ pub fn comes_before(a: &[u8], b: &[u8]) -> bool
     false
 }
 
+// Whether so many words of eight bytes, from the start on, are zero.
+fn zero_words(s: &[u8], words: usize) -> bool
+    requires { ⌜ 8 * words ≤ length (now s) ⌝ }
+    ensures { λ r. ⌜ r ≡ allZero (take (8 * words) (now (s .entry))) ⌝ }
+{
+    let mut n = 0;
+    while n < words {
+        if u64_at(s, 8 * n) != 0 {
+            return false;
+        }
+        n += 1;
+    }
+    true
+}
+
 // Whether every byte is zero.
 pub fn all_zero(s: &[u8]) -> bool
     ensures { λ r. ⌜ r ≡ allZero (now (s .entry)) ⌝ }
 {
-    let mut i = 0;
+    let words = s.len() / 8;
+    if !zero_words(s, words) {
+        return false;
+    }
+    let mut i = 8 * words;
     while i < s.len() {
         if s[i] != 0 {
             return false;
