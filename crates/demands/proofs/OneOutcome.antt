@@ -54,7 +54,6 @@ outcomes =
       signed-of = follows-one (λ κ a x e p. p);
       put-u32 = follows-one (λ κ a x e p. p);
       put-u64 = follows-one (λ κ a x e p. p);
-      wrapping-mul = follows-one (λ κ a x e p. p);
       crc32c-of = follows-one (λ κ a x e p. p);
       header-crc = follows-one (λ κ a x e p. p);
       fnv1a64-of = follows-one (λ κ a x e p. p);

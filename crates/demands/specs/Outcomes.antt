@@ -17,7 +17,6 @@ use Rattle.numbers.proofs.words.u64_at.Reads as u64-at-reads
 use Rattle.numbers.proofs.words.signed_of.Reads as signed-of-reads
 use Rattle.numbers.proofs.words.put_u32.Reads as put-u32-reads
 use Rattle.numbers.proofs.words.put_u64.Reads as put-u64-reads
-use Rattle.numbers.proofs.words.wrapping_mul.Reads as wrapping-mul-reads
 use Rattle.digests.proofs.crc.crc32c_of.Reads as crc32c-of-reads
 use Rattle.digests.proofs.crc.header_crc.Reads as header-crc-reads
 use Rattle.digests.proofs.fnv.fnv1a64_of.Reads as fnv1a64-of-reads
@@ -98,7 +97,6 @@ pub record Outcomes : Type 2 where
   pub signed-of : One signed-of-reads.Post (λ κ x e. x)
   pub put-u32 : One put-u32-reads.Post (λ κ x e. now (arg1 e))
   pub put-u64 : One put-u64-reads.Post (λ κ x e. now (arg1 e))
-  pub wrapping-mul : One wrapping-mul-reads.Post (λ κ x e. x)
   -- digests, crc
   pub crc32c-of : One crc32c-of-reads.Post (λ κ x e. x)
   pub header-crc : One header-crc-reads.Post (λ κ x e. x)

@@ -1,5 +1,6 @@
 pub mod Header
 pub mod Linear
 pub mod Pieces
+pub mod Prime
 pub mod Table
 pub mod Xor

@@ -1,7 +1,6 @@
 pub mod Bytes
 pub mod Compare
 pub mod EqualWords
-pub mod Product
 pub mod Put
 pub mod Signed
 pub mod Word

@@ -1,4 +1,4 @@
-// Little-endian words, parts of byte slices, wrapping multiplication and the age of a revision.
+// Little-endian words, parts of byte slices and the age of a revision.
 pub mod age;
 pub mod parts;
 pub mod words;

@@ -1,6 +1,6 @@
-// Little-endian words in byte slices, a word as a signed number, and the product that keeps the low 64 bits.
+// Little-endian words in byte slices, and a word as a signed number.
 ghost use mathlib.Core.Path.{_≡_};
-ghost use Prim.Native.Nat.{_+_, _*_, _%_, _^_, _<_, _≤_};
+ghost use Prim.Native.Nat.{_+_, _<_, _≤_};
 ghost use lib.ListN.{length};
 ghost use Rattle.numbers.specs.Bytes.{part, word, bytesOf, put};
 ghost use Rattle.numbers.specs.Signed.{signed};
@@ -62,16 +62,4 @@ pub fn put_u64(s: &mut [u8], at: usize, x: u64)
 {
     put_u32(s, at, (x % 4294967296) as u32);
     put_u32(s, at + 4, (x / 4294967296) as u32);
-}
-
-// The low 64 bits of a product: both numbers are split in halves, and the parts added with wrapping.
-pub fn wrapping_mul(x: u64, y: u64) -> u64
-    ensures { λ r. ⌜ r ≡ x * y % 2 ^ 64 ⌝ }
-{
-    let x_low = x % 4294967296;
-    let x_high = x / 4294967296;
-    let y_low = y % 4294967296;
-    let y_high = y / 4294967296;
-    let middle = std::num::wrapping_add_u64(x_low * y_high, x_high * y_low);
-    std::num::wrapping_add_u64(x_low * y_low, middle % 4294967296 * 4294967296)
 }

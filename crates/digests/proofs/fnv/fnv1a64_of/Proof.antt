@@ -25,8 +25,8 @@ shared-slice-read-wide c = search needs
 wide-requires : tie.Need-wide-requires Inv-loop μ-loop
 wide-requires c κs = search needs
 
-wrapping-mul-requires : tie.Need-wrapping-mul-requires Inv-loop μ-loop
-wrapping-mul-requires c κs = search needs
+times-prime-requires : tie.Need-times-prime-requires Inv-loop μ-loop
+times-prime-requires c κs = search needs
 
 add-i : tie.Need-add-i Inv-loop μ-loop
 add-i c = search needs
@@ -38,7 +38,7 @@ loop-again : tie.Need-loop-again Inv-loop μ-loop
 loop-again c =
     let l = c .before .before .before .before .loop in
     let s = c .before .before .before .before .before .before .args .s .now in
-    (search needs, l .inv .1 ∙ fnv-next (l .h) s (l .i) (search needs) (c .before .wide .ensures .0) (c .wrapping-mul .ensures))
+    (search needs, l .inv .1 ∙ fnv-next (l .h) s (l .i) (search needs) (c .before .wide .ensures .0) (c .times-prime .ensures))
 
 returns : tie.Need-returns Inv-loop μ-loop
 returns c =
@@ -54,7 +54,7 @@ fnv1a64-of-spec =
     loop-holds
     shared-slice-read-wide
     wide-requires
-    wrapping-mul-requires
+    times-prime-requires
     add-i
     loop-less
     loop-again
