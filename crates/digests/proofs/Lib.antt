@@ -1,6 +1,9 @@
+pub mod Arms
 pub mod Header
+pub mod Images
 pub mod Linear
+pub mod Mixed
 pub mod Pieces
+pub mod Powers
 pub mod Prime
-pub mod Table
 pub mod Xor

@@ -1,12 +1,11 @@
 -- CRC32-C (Castagnoli), bit by bit, and the header's CRC.
 -- Assumes nothing.
-use Prim.Native.Nat.{ℕ, zero, suc, _/_, _%_, _<_}
+use Prim.Native.Nat.{ℕ, zero, suc, _/_, _%_}
 use mathlib.Core.Bool.{cond}
-use mathlib.Core.Path.{_≡_}
 use mathlib.Core.List.{List, [], _∷_}
 use lib.Bits.{bitXor}
 use lib.Dec.{eqb}
-use lib.ListN.{getD, take, replicate}
+use lib.ListN.{take, replicate}
 use Rattle.numbers.specs.Bytes.{put}
 
 -- one bit: shifted down, and the reflected polynomial added where the bit that falls out is 1
@@ -16,10 +15,6 @@ crcBit c = cond (eqb (c % 2) 1) (bitXor (c / 2) 0x82F63B78) (c / 2)
 unfoldable pub crcBits : ℕ → ℕ → ℕ
 crcBits zero c = c
 crcBits (suc n) c = crcBits n (crcBit c)
-
--- a table of what eight bits do to each byte
-abbrev pub Rows : List ℕ → Type 0
-Rows t = (i : ℕ) → i < 256 → getD t i 0 ≡ crcBits 8 i
 
 -- the state after the bytes of a list, each added to the low eight bits and then taken bit by bit
 unfoldable pub crcFrom : ℕ → List ℕ → ℕ

@@ -1,2 +1,4 @@
 pub mod Crc
 pub mod Fnv
+pub mod Front
+pub mod Mixed

@@ -8,7 +8,7 @@ use native.Mathlib.Omega.{arith}
 use lib.Dec.{lit<}
 use lib.ListN.{length, take, drop, replicate}
 use lib.Seq.{getD-drop}
-use Rattle.numbers.specs.Bytes.{Bytes, word, bytesOf, put}
+use Rattle.numbers.specs.Bytes.{Bytes, part, word, bytesOf, put}
 
 -- bytes in a list, and in another put into it, are bytes
 pub append-bytes : (a b : List ℕ) → Bytes a → Bytes b → Bytes (a ++ b)
@@ -24,6 +24,10 @@ take-bytes (suc n) (x ∷ s) h (suc i) = take-bytes n s (λ j. h (suc j)) i
 
 pub drop-bytes : (n : ℕ) (s : List ℕ) → Bytes s → Bytes (drop n s)
 drop-bytes n s h i = rw (getD-drop n s i 0) (h (n + i))
+
+pub part-bytes : (s : List ℕ) (at n : ℕ) → Bytes s → Bytes (part s at n)
+unfolding part
+part-bytes s at n h = take-bytes n (drop at s) (drop-bytes at s h)
 
 pub replicate-bytes : (n : ℕ) → Bytes (replicate n 0)
 replicate-bytes zero i = lit< tt

@@ -8,7 +8,7 @@ use lib.ListN.{length}
 use lib.Seq.{take-append-le}
 use Rattle.numbers.specs.Bytes.{Bytes, part}
 use Rattle.digests.specs.Crc.{headerCrc}
-use Rattle.digests.proofs.Header.{header-states}
+use Rattle.digests.proofs.Header.{header-pieces}
 use Rattle.header.specs.Fields as F
 use Rattle.header.specs.Fields.{bytesIn, value}
 use Rattle.writing.specs.Write.{withField, sealed}
@@ -18,8 +18,7 @@ use Rattle.writing.proofs.OneField.{apart, field-length, field-before, 
 -- headers that differ in the generation and the CRC alone have the same CRC
 crc-same : (s t : List ℕ) → 256 ≤ length s → 256 ≤ length t → part s 0 0x40 ≡ part t 0 0x40 → part s 0x48 0x28 ≡ part t 0x48 0x28
     → part s 0x74 0x8C ≡ part t 0x74 0x8C → headerCrc s ≡ headerCrc t
-unfolding part
-crc-same s t hs ht a b c = sym (header-states s hs refl refl refl refl refl) ∙ rw (a, b, c) (header-states t ht refl refl refl refl refl)
+crc-same s t hs ht a b c = header-pieces s hs ∙ rw (a, b, c) (sym (header-pieces t ht))
 
 module _ (image : List ℕ) (long : 256 ≤ length image) (x : ℕ) where
   pub crc-of-crc : headerCrc (withField image F.header-crc32c x) ≡ headerCrc image

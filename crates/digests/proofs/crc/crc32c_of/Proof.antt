@@ -8,9 +8,6 @@ use Rattle.digests.specs.Crc.{crc32c}
 use Rattle.digests.proofs.crc.crc32c_of.Statement.{statement}
 use Rattle.digests.proofs.crc.crc32c_of.Tie as tie
 
-rows-requires : tie.Need-rows-requires
-rows-requires c κs = search needs
-
 after-requires : tie.Need-after-requires
 after-requires c κs = search needs
 
@@ -19,4 +16,4 @@ unfolding crc32c
 returns c = ap (λ (x : ℕ). bitXor x 0xFFFFFFFF) (c .after .ensures)
 
 pub crc32c-of-spec : {M : Type 1} → statement M
-crc32c-of-spec = tie.close (tie.spec rows-requires after-requires returns)
+crc32c-of-spec = tie.close (tie.spec after-requires returns)

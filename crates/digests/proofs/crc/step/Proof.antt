@@ -1,23 +1,25 @@
--- `crc::step` meets its contract: a row of the table is what eight bits do.
+-- `crc::step` meets its contract: eight bits of the low byte, and the rest shifted.
 -- Assumes nothing.
 use borrow.Author.Needs.{needs}
-use Rattle.digests.proofs.Linear.{byte-row}
+use Prim.Native.Nat.{ℕ, _%_}
+use mathlib.Core.Path.{_≡_, ap, _∙_}
+use lib.Bits.{bitXor}
+use Rattle.digests.specs.Crc.{crcBits}
+use Rattle.digests.proofs.Pieces.{crc-byte}
 use Rattle.digests.proofs.crc.step.Statement.{statement}
 use Rattle.digests.proofs.crc.step.Tie as tie
 
-cast-low : tie.Need-cast-low
-cast-low c = search needs
+wide-requires : tie.Need-wide-requires
+wide-requires c κs = search needs
 
-mul-result : tie.Need-mul-result
-mul-result c = search needs
-
-element-copy-out-result : tie.Need-element-copy-out-result
-element-copy-out-result c = search needs
+bits-8-requires : tie.Need-bits-8-requires
+bits-8-requires c κs = search needs
 
 returns : tie.Need-returns
 returns c =
-    let a = c .before .args in
-    byte-row (a .t .now) (a .c) (a .b) (c .before .pre) (search needs)
+    let a = c .before .before .args in
+    let eight : c .bits-8 .result ≡ crcBits 8 (bitXor (a .c) (c .before .wide .result) % 256) = c .bits-8 .ensures in
+    crc-byte (a .c) (a .b) (c .before .before .fits .b .fits) (eight ∙ ap (λ (x : ℕ). crcBits 8 (bitXor (a .c) x % 256)) (c .before .wide .ensures .0))
 
 pub step-spec : {M : Type 1} → statement M
-step-spec = tie.close (tie.spec cast-low mul-result element-copy-out-result returns)
+step-spec = tie.close (tie.spec wide-requires bits-8-requires returns)
