@@ -5,6 +5,7 @@ pub mod FieldBytes
 pub mod Firsts
 pub mod Fit
 pub mod Power
+pub mod PowerBits
 pub mod PassedTests
 pub mod SizeLaws
 pub mod Stages

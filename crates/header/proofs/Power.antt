@@ -6,7 +6,7 @@ use mathlib.Core.Path.{_≡_, refl, sym, ap, _∙_}
 use native.Mathlib.Nat.{zero-add, add-suc, suc-add, two-pow-succ}
 use native.Mathlib.Decide.{decLe}
 use native.Mathlib.Omega.{arith}
-use borrow.Author.Tests.{leb-true, leb-false, le-leb, lt-leb, eqb-true, eq-eqb, ne-eqb}
+use borrow.Author.Tests.{leb-true, leb-false, le-leb, lt-leb, eqb-true, eq-eqb}
 use lib.Dec.{leb}
 use lib.Pow.{pow-pos, pow-mono, pow-lt}
 use Rattle.header.specs.Sizes.{powerFrom}
@@ -79,20 +79,6 @@ passed-next {n} {count} p h most = go (p .more) (p .exponent) (p .together) (p .
           here = rw two-pow-succ (omega arith);
           rest = rest ∙ rw (lt-leb n (2 ^ k) (rw here at h)) refl;
         }
-
--- a power of two above 2 ^ 63 has more than 64 bits
-powers-apart : (j : ℕ) → 2 ^ 63 < 2 ^ j → 2 ^ 64 ≤ 2 ^ j
-powers-apart j h =
-    elim (decLe j 63) [
-      | yes low ↦ absurd (let small : 2 ^ j ≤ 2 ^ 63 = pow-mono {i = j} {j = 63} low in omega arith)
-      | no high ↦ pow-mono {i = 64} {j = j} (omega arith)
-    ]
-
-pub no-power : (n : ℕ) → 2 ^ 63 < n → n < 2 ^ 64 → powerOfTwo n ≡ false
-unfolding powerOfTwo
-no-power n low high =
-    let p = power-two 64 0 n in
-    ne-eqb (powerFrom 64 0 n) n (λ e. let h : 2 ^ 64 ≤ 2 ^ p .0 = powers-apart (p .0) (rw (← p .1, e) low) in omega (arith, p .1, e))
 
 -- the smallest power of two that is at least a power of two is that one
 power-itself : (more k j : ℕ) → k ≤ j → j ≤ more + k → powerFrom more k (2 ^ j) ≡ 2 ^ j

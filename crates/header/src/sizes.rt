@@ -69,14 +69,14 @@ fn power_from(n: u64) -> u64
     power
 }
 
-// Whether a number is a power of two.
+// Whether a number is a power of two: it has one bit, which n - 1 has not.
 pub fn power_of_two(n: u64) -> bool
     ensures { λ r. ⌜ r ≡ powerOfTwo n ⌝ }
 {
-    if 9223372036854775808 < n {
+    if n == 0 {
         return false;
     }
-    power_from(n) == n
+    n & (n - 1) == 0
 }
 
 // The smallest power of two that is at least twice the slot capacity.
