@@ -78,6 +78,10 @@ module _ (s : Shape) (image : List ℕ) (fit : Shaped s image) where
   tidied-kept =
       around-either (ltb (s .layout .«bucket_count») (4 * tombstoneCount (tableOf s image))) (rebuilt-around s image fit) (around-self)
 
+  -- so the shape is still that of the image
+  pub tidied-fit : (after : List ℕ) → after ≡ tidied s image → Shaped s after
+  tidied-fit after e = rw e (around-shaped tidied-kept fit)
+
 module _ (s : Shape) (image : List ℕ) (fit : Shaped s image) (batch : List ℕ) where
   -- all records act
   pub live-all-kept : (new : ℕ → Bool) (i : ℕ) → i ≤ recordCount (s .layout) batch → Around image (actedTo s new image batch i)

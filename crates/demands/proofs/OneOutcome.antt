@@ -83,6 +83,7 @@ outcomes =
       key-of = follows-one (λ κ a x e p. p);
       hash64-of = follows-one (λ κ a x e p. p);
       slot-plus1-of = follows-one (λ κ a x e p. p);
+      home-bucket = follows-one (λ κ a x e p. p);
       next-bucket = follows-one (λ κ a x e p. p);
       probe-hashed = follows-one (λ κ a x e p. p);
       probe-for = follows-one (λ κ a x e p. p);

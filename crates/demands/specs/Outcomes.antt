@@ -46,6 +46,7 @@ use Rattle.image.proofs.table.meta_of.Reads as meta-of-reads
 use Rattle.image.proofs.table.key_of.Reads as key-of-reads
 use Rattle.image.proofs.table.hash64_of.Reads as hash64-of-reads
 use Rattle.image.proofs.table.slot_plus1_of.Reads as slot-plus1-of-reads
+use Rattle.image.proofs.table.home_bucket.Reads as home-bucket-reads
 use Rattle.image.proofs.table.next_bucket.Reads as next-bucket-reads
 use Rattle.image.proofs.probe.probe_hashed.Reads as probe-hashed-reads
 use Rattle.image.proofs.probe.probe_for.Reads as probe-for-reads
@@ -138,6 +139,7 @@ pub record Outcomes : Type 2 where
   pub index-of : One index-of-reads.Post (λ κ x e. now x)
   pub hash64-of : One hash64-of-reads.Post (λ κ x e. x)
   pub slot-plus1-of : One slot-plus1-of-reads.Post (λ κ x e. x)
+  pub home-bucket : One home-bucket-reads.Post (λ κ x e. x)
   pub next-bucket : One next-bucket-reads.Post (λ κ x e. x)
   -- listing, listed
   pub refused : One refused-reads.Post (λ κ x e. x)

@@ -102,6 +102,7 @@ module _ (o : Options) (image : List ℕ) (s : Shape) (fit : judged o image ≡ 
           slot = rw fit-shape (rw (says .key, says .index) (says .slot));
           offset = rw fit-shape (extent-passed image (passed .tenth) .0);
           size = rw (fit-shape, extent-passed image (passed .tenth) .0) fit-total;
+          power = rw fit-shape (fit-powered .power);
           room = rw fit-shape (fit-powered .above);
           small = rw fit-shape (omega (arith, fit-powered .most));
         };

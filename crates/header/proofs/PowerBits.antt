@@ -8,9 +8,9 @@ use native.Mathlib.Decide.{decLe}
 use native.Mathlib.Omega.{arith}
 use borrow.Author.Tests.{eq-eqb, ne-eqb}
 use lib.Arith.{bin-ind}
-use lib.Bits.{bitAnd, and-step, and-self, and-shifted}
+use lib.Bits.{bitAnd, and-step, and-self, and-shifted, and-mask}
 use lib.Dec.{eqb}
-use lib.Pow.{ones-lt}
+use lib.Pow.{pow-pos, ones-lt}
 use Rattle.header.specs.HeaderTest.{powerOfTwo}
 use Rattle.header.proofs.Power.{power-true, true-power}
 
@@ -45,3 +45,11 @@ power-by-bits n h bits = go (powerOfTwo n) refl
     go true e = let p = power-true n e in rw (p .1) (eq-eqb _ _ (power-alone (p .0)))
     go false e =
         ne-eqb _ _ (λ z. let p = alone-power n h z in true≢false (sym (true-power n (p .0) (p .1) bits) ∙ e))
+
+-- 0 is no power of two
+pub power-positive : (n : ℕ) → powerOfTwo n ≡ true → 0 < n
+power-positive n t = let p = power-true n t in omega (arith, pow-pos (p .0), p .1)
+
+-- the remainder by a power of two is a mask
+pub power-mask : (m n : ℕ) → powerOfTwo n ≡ true → bitAnd m (n - 1) ≡ m % n
+power-mask m n t = let p = power-true n t in rw (p .1) (and-mask m (p .0))

@@ -1,12 +1,14 @@
 -- What is known of an image that passed the header test, by its shape: all that later code relies on.
 -- Assumes nothing.
 use Prim.Native.Nat.{ℕ, _+_, _*_, _^_, _≤_, _<_}
+use mathlib.Core.Bool.{true}
 use mathlib.Core.Path.{_≡_}
 use mathlib.Core.List.{List}
 use lib.ListN.{length}
 use Rattle.header.specs.declared.shape.Layout.{Layout}
 use Rattle.header.specs.declared.shape.Shape.{Shape}
 use Rattle.header.specs.Sizes.{most-key-size, slotSize, bucketsOffset}
+use Rattle.header.specs.HeaderTest.{powerOfTwo}
 
 -- by its layout
 pub record LaidOut (l : Layout) (image : List ℕ) : Type 0 where
@@ -16,6 +18,8 @@ pub record LaidOut (l : Layout) (image : List ℕ) : Type 0 where
   -- the buckets follow the slots, and the image ends with them
   pub offset : l .«buckets_offset» ≡ bucketsOffset (l .«slot_capacity») (l .«slot_size»)
   pub size : length image ≡ l .«buckets_offset» + 16 * l .«bucket_count»
+  -- a mask finds a hash's home bucket
+  pub power : powerOfTwo (l .«bucket_count») ≡ true
   -- an EMPTY bucket is certain
   pub room : l .«slot_capacity» < l .«bucket_count»
   -- slot numbers, and sums of so many lookup counts, stay small

@@ -12,6 +12,7 @@ ghost use Rattle.image.specs.Step.{Says};
 ghost use Rattle.image.specs.Told.{toldBroken, reportOf};
 use crate::table::TOMBSTONE;
 use crate::table::hash64_of;
+use crate::table::home_bucket;
 use crate::table::key_of;
 use crate::table::meta_of;
 use crate::table::next_bucket;
@@ -114,7 +115,7 @@ pub fn probe_hashed(image: &[u8], s: Shape, key: &[u8], hash: u64) -> Report
     ensures { λ r. ⌜ r ≡ reportOf s (now (image .entry)) (now (key .entry)) ⌝ }
 {
     let count = s.layout.bucket_count;
-    let home = (hash % (count as u64)) as usize;
+    let home = home_bucket(hash, count);
     let mut b = home;
     let mut examined = 0;
     let mut tombstone = count;

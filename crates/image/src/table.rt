@@ -1,7 +1,9 @@
 // The table in an image: its slots and buckets, by the layout.
+ghost use mathlib.Core.Bool.{true};
 ghost use mathlib.Core.Path.{_≡_};
 ghost use Prim.Native.Nat.{_+_, _%_, _^_, _<_};
 ghost use Rattle.numbers.specs.Bytes.{part, word};
+ghost use Rattle.header.specs.HeaderTest.{powerOfTwo};
 ghost use Rattle.header.specs.Shaped.{LaidOut};
 ghost use Rattle.image.specs.Table.{slotAt, revisionAt, bucketAt, metaOf, keyOf, revisionOf, indexOf};
 use header::shape::Layout;
@@ -96,6 +98,14 @@ pub fn slot_plus1_of(image: &[u8], l: Layout, b: usize) -> u64
 {
     let at = bucket_at(l, b) + 8;
     u64_at(image, at)
+}
+
+// The home bucket of a hash, of so many: the remainder, which for a power of two is a mask.
+pub fn home_bucket(hash: u64, count: usize) -> usize
+    requires { ⌜ powerOfTwo count ≡ true ⌝ }
+    ensures { λ r. ⌜ r ≡ hash % count ⌝ }
+{
+    (hash & ((count - 1) as u64)) as usize
 }
 
 // The bucket after b, of so many, round the end.

@@ -73,7 +73,7 @@ module _ (s : Shape) (image : List ℕ) (fit : Shaped s image) (room : s .«slot
   mid-around : Around image mid
   mid-around = slot-put-around (s .layout) image (fit .laid) (slotAt (s .layout) n) bytes n room (omega arith) high
 
-  mid-fit : Shaped s mid
+  pub mid-fit : Shaped s mid
   mid-fit = around-shaped mid-around fit
 
   written : (j m : ℕ) → j + m ≤ s .layout .«slot_size» → part mid (slotAt (s .layout) n + j) m ≡ part bytes j m

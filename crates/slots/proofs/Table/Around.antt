@@ -116,6 +116,7 @@ around-laid k fit =
       slot = fit .slot;
       offset = fit .offset;
       size = omega (arith, fit .size, k .size);
+      power = fit .power;
       room = fit .room;
       small = fit .small;
     }

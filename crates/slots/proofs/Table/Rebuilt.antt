@@ -103,6 +103,10 @@ module _ (s : Shape) (image : List ℕ) (fit : Shaped s image) where
           }
       go false e b = record { around = b .around; slots = b .slots; table = b .table ∙ sym (step n l false e) }
 
+  -- the shape is still that of the image
+  pub rebuilt-fit : (n : ℕ) (before : List ℕ) → n ≤ s .«slot_highwater» → before ≡ rebuiltTo s image n → Shaped s before
+  rebuilt-fit n before l e = rw e (around-shaped (built n l .around) fit)
+
   -- one slot more, by the meta that the image has by then
   pub rebuilt-more : (n : ℕ) (before : List ℕ) → n < s .«slot_highwater» → before ≡ rebuiltTo s image n
       → cond (eqb (metaOf (s .layout) before n) 1) (indexed s before n) before ≡ rebuiltTo s image (n + 1)

@@ -7,7 +7,7 @@ use native.Mathlib.Omega.{arith}
 use lib.ListN.{length}
 use Rattle.header.specs.Fields.{value, generation}
 use Rattle.slots.proofs.Table.Around.{around-generation}
-use Rattle.applying.proofs.StepsKeepHeader.{header-inside, tidied-kept}
+use Rattle.applying.proofs.StepsKeepHeader.{header-inside, tidied-kept, tidied-fit}
 use Rattle.applying.proofs.Acting.{settled-by}
 use borrow.Author.Needs.{needs}
 use Rattle.applying.proofs.apply.settle.Statement.{statement}
@@ -17,10 +17,14 @@ tidy-requires : tie.Need-tidy-requires
 tidy-requires c κs = search needs
 
 count-live-requires : tie.Need-count-live-requires
-count-live-requires c κs = search needs
+count-live-requires c κs =
+    let b = c .before .before .before .before .before .before in
+    tidied-fit (b .args .s) (b .args .image .now) (b .pre .0) _ (c .before .before .before .tidy .ensures)
 
 count-tombstones-requires : tie.Need-count-tombstones-requires
-count-tombstones-requires c κs = search needs
+count-tombstones-requires c κs =
+    let b = c .before .before .before .before .before .before .before .before in
+    tidied-fit (b .args .s) (b .args .image .now) (b .pre .0) _ (c .before .before .before .before .before .tidy .ensures)
 
 with-counters-requires : tie.Need-with-counters-requires
 with-counters-requires c κs = search needs

@@ -2,10 +2,10 @@
 -- Assumes nothing.
 use borrow.Author.Needs.{needs}
 use native.Mathlib.Nat.{mod-lt}
-use mathlib.Core.Path.{_≡_, refl, sym, ap, subst, _∙_}
-use Prim.Native.Nat.{ℕ, _+_, _-_, _%_, _≤_, _<_}
+use mathlib.Core.Path.{_≡_, refl, sym, ap, _∙_}
+use Prim.Native.Nat.{_+_, _-_, _≤_, _<_}
 use Rattle.probing.specs.Table.{isTombstone}
-use Rattle.probing.specs.Probe.{Probed, broken, probe, countOf}
+use Rattle.probing.specs.Probe.{Probed, home, broken, probe, countOf}
 use Rattle.probing.specs.Report.{orTombstone}
 use Rattle.probing.proofs.Reading.Walk.{walk}
 use Rattle.probing.proofs.Report as law
@@ -24,56 +24,61 @@ Inv-loop image s key hash count home b₀ examined₀ tombstone₀ b examined to
 abbrev μ-loop : tie.MeasureT-loop
 μ-loop image s key hash count home b₀ examined₀ tombstone₀ b examined tombstone = s .layout .«bucket_count» - examined
 
+-- the probe begins at the key's home
+at-home : (b : tie.After-home-bucket Inv-loop μ-loop)
+    → let a = b .before .before .before .args in
+    b .home-bucket .result ≡ home (tableOf (a .s) (a .image .now)) (a .key .now)
+unfolding tableOf
+at-home b = rw (b .before .before .before .pre .1) at (b .home-bucket .ensures)
+
 -- what is left of the probe after a bucket, and whether the bucket is a TOMBSTONE
 turned : (c : tie.After-examine Inv-loop μ-loop) (r : Step) → c .examine .result ≡ r
-    → let a = c .before .before .before .before .before .args in
+    → let a = c .before .before .before .before .before .before .args in
     let l = c .before .before .loop in
     let t = tableOf (a .s) (a .image .now) in
     probe t (a .key .now) ≡ ends r (l .examined + 1) (walk t (a .key .now) (a .s .layout .«bucket_count» - (l .examined + 1)) (l .examined + 1))
 unfolding tableOf
 turned c r e =
-    let a = c .before .before .before .before .before .args in
+    let a = c .before .before .before .before .before .before .args in
     let l = c .before .before .loop in
     let says = rw e at (c .examine .ensures .ends) in
     law.turned (tableOf (a .s) (a .image .now)) (a .key .now) (l .inv .2) (search needs) ∙ sym (says _ _)
 
 marked : (c : tie.After-examine Inv-loop μ-loop) (r : Step) → c .examine .result ≡ r
-    → let a = c .before .before .before .before .before .args in
+    → let a = c .before .before .before .before .before .before .args in
     isTombstone (tableOf (a .s) (a .image .now) .bucket (c .before .before .loop .b)) ≡ saysTombstone r
 unfolding tableOf
 marked c r e = sym (c .examine .ensures .tombstone) ∙ ap saysTombstone e
 
 -- the report where a bucket ends the probe, and where the table is broken
 ended : (c : tie.After-examine Inv-loop μ-loop) (r : Step) → c .examine .result ≡ r
-    → let a = c .before .before .before .before .before .args in
+    → let a = c .before .before .before .before .before .before .args in
     let l = c .before .before .loop in
     (end : Probed) → ((onward : Probed) → ends r (l .examined + 1) onward ≡ end) → countOf end ≡ l .examined + 1
     → toldReport (record { end = end; bucket = l .b; tombstone = l .tombstone }) ≡ reportOf (a .s) (a .image .now) (a .key .now)
 unfolding reportOf
 ended c r e end is counted =
-    let a = c .before .before .before .before .before .args in
+    let a = c .before .before .before .before .before .before .args in
     let l = c .before .before .loop in
     sym (ap toldReport (reports (tableOf (a .s) (a .image .now)) (a .key .now) (l .inv .2) end (turned c r e ∙ is _) counted))
 
-broke : (b : tie.Start Inv-loop μ-loop) → probe (tableOf (b .args .s) (b .args .image .now)) (b .args .key .now) ≡ broken
-    → toldBroken (b .args .hash % b .args .s .layout .«bucket_count») (b .args .s .layout .«bucket_count») ≡ reportOf (b .args .s) (b .args .image .now) (b .args .key .now)
+broke : (b : tie.After-home-bucket Inv-loop μ-loop)
+    → let a = b .before .before .before .args in
+    probe (tableOf (a .s) (a .image .now)) (a .key .now) ≡ broken
+    → toldBroken (b .home-bucket .result) (a .s .layout .«bucket_count») ≡ reportOf (a .s) (a .image .now) (a .key .now)
 unfolding reportOf tableOf
 broke b e =
-    let a = b .args in
-    ap (λ (h : ℕ). toldBroken (h % a .s .layout .«bucket_count») (a .s .layout .«bucket_count»)) (b .pre .1)
-    ∙ sym (ap toldReport (reports-broken (tableOf (a .s) (a .image .now)) (a .key .now) e))
+    let a = b .before .before .before .args in
+    rw (at-home b) (sym (ap toldReport (reports-broken (tableOf (a .s) (a .image .now)) (a .key .now) e)))
 
-rem-home : tie.Need-rem-home Inv-loop μ-loop
-rem-home c = search needs
+home-bucket-requires : tie.Need-home-bucket-requires Inv-loop μ-loop
+home-bucket-requires c κs = search needs
 
 loop-holds : tie.Need-loop-holds Inv-loop μ-loop
 unfolding tableOf
 loop-holds c =
-    let b = c .before .before in
-    let a = b .args in
-    let count = a .s .layout .«bucket_count» in
-    let t = tableOf (a .s) (a .image .now) in
-    (mod-lt _ (search needs), search needs, subst (λ (h : ℕ). OnWay t (a .key .now) (h % count) 0 count) (sym (b .pre .1)) (starts t (a .key .now)))
+    let a = c .before .before .before .args in
+    (rw (at-home c) (mod-lt _ (search needs)), search needs, rw (at-home c) (starts (tableOf (a .s) (a .image .now)) (a .key .now)))
 
 examine-requires : tie.Need-examine-requires Inv-loop μ-loop
 examine-requires c κs = search needs
@@ -101,7 +106,7 @@ broken-requires c κs = search needs
 
 returns-3 : tie.Need-returns-3 Inv-loop μ-loop
 returns-3 c =
-    c .broken .ensures ∙ broke (c .before .before .before .before .before .before .before .before) (turned (c .before .before .before) _ (c .before .enum-told2 .given .1))
+    c .broken .ensures ∙ broke (c .before .before .before .before .before .before) (turned (c .before .before .before) _ (c .before .enum-told2 .given .1))
 
 enum-told-3 : tie.Need-enum-told-3 Inv-loop μ-loop
 enum-told-3 c = search needs
@@ -120,7 +125,7 @@ unfolding tableOf
 loop-again c =
     let e = c .before .before .enum-told3 .given .1 in
     let said = c .before .before .before .before in
-    let a = said .before .before .before .before .before .args in
+    let a = said .before .before .before .before .before .before .args in
     let l = said .before .before .loop in
     let t = tableOf (a .s) (a .image .now) in
     let first : c .before .first-of .result ≡ orTombstone t (l .tombstone) (l .b) = rw (marked said _ e) (c .before .first-of .ensures) in
@@ -141,7 +146,7 @@ unfolding tableOf
 loop-again-2 c =
     let e = c .before .enum-told4 .given .1 in
     let said = c .before .before .before in
-    let a = said .before .before .before .before .before .args in
+    let a = said .before .before .before .before .before .before .args in
     let l = said .before .before .loop in
     let t = tableOf (a .s) (a .image .now) in
     let way = goes-on t (a .key .now) (l .inv .2) (search needs) (turned said _ e) in
@@ -153,9 +158,9 @@ broken-requires-2 c κs = search needs
 returns-4 : tie.Need-returns-4 Inv-loop μ-loop
 unfolding tableOf
 returns-4 c =
-    let b = c .before .before .before .before .before in
-    let l = c .before .before .loop in
-    c .broken2 .ensures ∙ broke b (runs-out (tableOf (b .args .s) (b .args .image .now)) (b .args .key .now) (l .inv .2) (search needs))
+    let b = c .before .before .before in
+    let a = b .before .before .before .args in
+    c .broken2 .ensures ∙ broke b (runs-out (tableOf (a .s) (a .image .now)) (a .key .now) (c .before .before .loop .inv .2) (search needs))
 
 pub probe-hashed-spec : {M : Type 1} → statement M
 probe-hashed-spec =
@@ -163,7 +168,7 @@ probe-hashed-spec =
     (tie.spec
     Inv-loop
     μ-loop
-    rem-home
+    home-bucket-requires
     loop-holds
     examine-requires
     add-examined

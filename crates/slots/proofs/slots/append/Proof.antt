@@ -8,10 +8,11 @@ use native.Mathlib.Omega.{arith}
 use Rattle.numbers.specs.Bytes.{put}
 use Rattle.digests.specs.Fnv.{fnv1a64}
 use Rattle.probing.specs.Report.{Missing, Hint}
+use Rattle.header.specs.Shaped.{Shaped}
 use Rattle.image.specs.Table.{keyOf, tableOf}
 use Rattle.image.proofs.Places.{slot-inside}
 use Rattle.slots.specs.Slots.{appended}
-use Rattle.slots.proofs.Table.Appended.{mid-new, mid-missing, mid-hint}
+use Rattle.slots.proofs.Table.Appended.{mid-fit, mid-new, mid-missing, mid-hint}
 use Rattle.slots.proofs.slots.append.Statement.{statement}
 use Rattle.slots.proofs.slots.append.Tie as tie
 
@@ -38,10 +39,11 @@ index-slot-requires c κs =
     let l = a .s .layout in
     let n = a .s .«slot_highwater» in
     let made = c .before .before .before .copy-to .ensures ∙ ap (λ (at : ℕ). put (a .image .now) at (a .«record» .now)) (c .before .before .before .before .before .slot-at .ensures) in
+    let fit = mid-fit (a .s) (a .image .now) (b .pre .0) (b .pre .1 .0) (a .«record» .now) (b .pre .1 .1 .0) in
     let key = mid-new (a .s) (a .image .now) (b .pre .0) (b .pre .1 .0) (a .«record» .now) (b .pre .1 .1 .0) .key in
     let none = mid-missing (a .s) (a .image .now) (b .pre .0) (b .pre .1 .0) (a .«record» .now) (b .pre .1 .1 .0) _ (pre .1 .0) in
     let hint = mid-hint (a .s) (a .image .now) (b .pre .0) (b .pre .1 .0) (a .«record» .now) (b .pre .1 .1 .0) _ (a .hint) (pre .1 .1) in (
-      search needs,
+      subst (Shaped (a .s)) (sym made) fit,
       (
         search needs,
         (

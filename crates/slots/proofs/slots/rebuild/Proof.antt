@@ -9,7 +9,7 @@ use Prim.Native.Nat.{ℕ, _-_, _≤_}
 use lib.ListN.{length}
 use Rattle.header.specs.Shaped.{Shaped}
 use Rattle.slots.specs.Slots.{rebuiltTo, rebuilt}
-use Rattle.slots.proofs.Table.Rebuilt.{rebuilt-more, rebuilt-missing}
+use Rattle.slots.proofs.Table.Rebuilt.{rebuilt-fit, rebuilt-more, rebuilt-missing}
 use Rattle.slots.proofs.slots.rebuild.Statement.{statement}
 use Rattle.slots.proofs.slots.rebuild.Tie as tie
 
@@ -37,7 +37,10 @@ index-live-requires c κs =
     let l = c .before .before .loop in
     let was = b .args .image .now in
     let begun = c .before .before .before .before .before .clear .ensures in
-    (search needs, (search needs, rebuilt-missing (b .args .s) was (b .pre .0) (b .pre .1) (l .n) (l .image) (omega arith) (l .inv .2 was (b .pre .0) begun)))
+    let so-far = l .inv .2 was (b .pre .0) begun in (
+      rebuilt-fit (b .args .s) was (b .pre .0) (l .n) (l .image) (l .inv .0) so-far,
+      (search needs, rebuilt-missing (b .args .s) was (b .pre .0) (b .pre .1) (l .n) (l .image) (omega arith) so-far),
+    )
 
 add-n : tie.Need-add-n Inv-loop μ-loop
 add-n c = search needs
