@@ -98,6 +98,23 @@ def pattern(comparison, o):
     return offset, bits, bytes(wanted)
 
 
+def headers(comparison):
+    """Every word of a header with each of its bits turned, at and below every power of two, and at random; its CRC right, and wrong
+    in one bit."""
+    pick, powers = comparison.random, [2**power for power in range(65)]
+    for at in range(0, 256, 8):
+        o = comparison.images.options()
+        image = comparison.images.history(o)
+        held = int.from_bytes(image[at:at + 8], "little")
+        turned, below = [held ^ power for power in powers[:64]], [power - 1 for power in powers]
+        for word in (*turned, *below, *powers[:64], *(pick.getrandbits(64) for _ in range(40))):
+            image[at:at + 8] = word.to_bytes(8, "little")
+            second.write_fields(image)
+            comparison.same("open_check", bytes(image), o)
+            second.write_field(image, "header_crc32c", second.field(image, "header_crc32c") ^ pick.choice(powers[:32]))
+            comparison.same("open_check", bytes(image), o)
+
+
 def listings(comparison, image, o):
     numbers = [comparison.random.getrandbits(32) for _ in range(comparison.random.randrange(8))]
     window, matched = (comparison.number(6), comparison.number(6)), pattern(comparison, o)
@@ -371,7 +388,7 @@ def main():
     seed = int(sys.argv[1]) if len(sys.argv) > 1 else 1
     comparison = Comparison(seed)
     began = time.monotonic()
-    for part in (digests, ages, places, readings, creations, writings, user_data, histories, commits, lengths, shapes,
+    for part in (digests, ages, places, headers, readings, creations, writings, user_data, histories, commits, lengths, shapes,
                  largest, rebuilds, ends, keys, whole_patterns):
         part(comparison)
     listed = dict(numbers_listed())
