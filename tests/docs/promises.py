@@ -1,5 +1,6 @@
 """docs/promises.md and docs/audit.md against the tree: every file and wrong program that they name is there, every definition
-stands in a file beside it; promises.md names every wrong program and every function of slc1.h, and audit.md every experiment."""
+stands in a file beside it; promises.md names every wrong program and every function of slc1.h, and audit.md every experiment; and
+no public function lacks its statement in the demands."""
 
 import collections
 import os
@@ -66,6 +67,19 @@ def table_complaints(text, known, tried):
                 yield from (f"{name} is not tried in {call}" for name in names(third) if name not in tried[call])
 
 
+def unstated():
+    """The public functions of the crates below host that neither Calls nor Outcomes speaks of."""
+    statements = read("crates/demands/specs/Calls.antt") + read("crates/demands/specs/Outcomes.antt")
+    stated = set(re.findall(r"^use Rattle·(\w+)\.proofs\.(\w+)\.(\w+)(?:\.Reads)? as ", statements, re.M))
+    for crate in crates():
+        root = f"crates/{crate}/src/lib.rt"
+        below = crate != "host" and os.path.exists(os.path.join(ROOT, root))
+        for module in re.findall(r"^pub mod (\w+);", read(root), re.M) if below else []:
+            for function in re.findall(r"^pub fn (\w+)", read(f"crates/{crate}/src/{module}.rt"), re.M):
+                if (crate, module, function) not in stated:
+                    yield f"{crate}::{module}::{function} is not in demands/specs/Outcomes.antt"
+
+
 def complaints():
     known = {wrong.name for wrong in wrong_programs()}
     tried = collections.defaultdict(set)
@@ -79,6 +93,7 @@ def complaints():
     yield from (f"docs/audit.md does not name {name}" for name in sorted(experiments - set(names(audit))))
     for file, text in (("docs/promises.md", promises), ("docs/audit.md", audit)):
         yield from (f"{file}: {said}" for said in table_complaints(text, known | set(crates()), tried))
+    yield from unstated()
 
 
 if __name__ == "__main__":

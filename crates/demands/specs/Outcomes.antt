@@ -50,6 +50,7 @@ use Rattle.image.proofs.table.home_bucket.Reads as home-bucket-reads
 use Rattle.image.proofs.table.next_bucket.Reads as next-bucket-reads
 use Rattle.image.proofs.probe.probe_hashed.Reads as probe-hashed-reads
 use Rattle.image.proofs.probe.probe_for.Reads as probe-for-reads
+use Rattle.image.proofs.probe.free_bucket.Reads as free-bucket-reads
 use Rattle.listing.proofs.listed.refused.Reads as refused-reads
 use Rattle.writing.proofs.fields.write.Reads as write-reads
 use Rattle.writing.proofs.fields.seal.Reads as seal-reads
@@ -68,6 +69,7 @@ use Rattle.batch.proofs.batch.key_in.Reads as key-in-reads
 use Rattle.batch.proofs.batch.batch_wrong.Reads as batch-wrong-reads
 use Rattle.batch.proofs.batch.record_meta.Reads as record-meta-reads
 use Rattle.batch.proofs.batch.record_key.Reads as record-key-reads
+use Rattle.batch.proofs.batch.some_delete.Reads as some-delete-reads
 use Rattle.batch.proofs.decided.hash_keys.Reads as hash-keys-reads
 use Rattle.batch.proofs.decided.flag_deciding.Reads as flag-deciding-reads
 use Rattle.batch.proofs.new_keys.order_new_keys.Reads as order-new-keys-reads
@@ -130,6 +132,7 @@ pub record Outcomes : Type 2 where
   -- image, probe
   pub probe-hashed : One probe-hashed-reads.Post (λ κ x e. x)
   pub probe-for : One probe-for-reads.Post (λ κ x e. x)
+  pub free-bucket : One free-bucket-reads.Post (λ κ x e. x)
   -- image, table
   pub slot-at : One slot-at-reads.Post (λ κ x e. x)
   pub bucket-at : One bucket-at-reads.Post (λ κ x e. x)
@@ -164,6 +167,7 @@ pub record Outcomes : Type 2 where
   pub batch-wrong : One batch-wrong-reads.Post (λ κ x e. x)
   pub record-meta : One record-meta-reads.Post (λ κ x e. x)
   pub record-key : One record-key-reads.Post (λ κ x e. now x)
+  pub some-delete : One some-delete-reads.Post (λ κ x e. x)
   -- batch, decided
   pub hash-keys : One hash-keys-reads.Post (λ κ x e. x)
   pub flag-deciding : One flag-deciding-reads.Post (λ κ x e. x)
