@@ -1,3 +1,4 @@
 // Applying a batch that passed every test.
+#![tactic(auto)]
 pub mod apply;
 mod counts;

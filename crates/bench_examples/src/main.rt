@@ -1,4 +1,5 @@
 // Prints published vectors of the digests, and document 01's examples, as the library answers them.
+#![tactic(auto)]
 mod bench;
 mod digests_of;
 mod print;

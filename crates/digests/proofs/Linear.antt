@@ -34,14 +34,14 @@ bit_pick c =
     (sym (xor_zero_r (c / 2))) refl (c % 2) (omega arith)
 
 -- one bit is linear
-bit_xor : (c d : ℕ) → crc_bit (bit_xor c d) ≡ bit_xor (crc_bit c) (crc_bit d)
-bit_xor c d = rw (bit_pick, bit_pick, bit_pick, xor_half, xor_digit, pick_xor) (xor_pairs (c / 2) (d / 2) (pick 0x82F63B78 (c % 2)) (pick 0x82F63B78 (d % 2)))
+bit_xor_lem : (c d : ℕ) → crc_bit (bit_xor c d) ≡ bit_xor (crc_bit c) (crc_bit d)
+bit_xor_lem c d = rw (bit_pick, bit_pick, bit_pick, xor_half, xor_digit, pick_xor) (xor_pairs (c / 2) (d / 2) (pick 0x82F63B78 (c % 2)) (pick 0x82F63B78 (d % 2)))
 
 -- n bits are linear
 pub bits_xor : (n c d : ℕ) → crc_bits n (bit_xor c d) ≡ bit_xor (crc_bits n c) (crc_bits n d)
 unfolding crc_bits
 bits_xor zero c d = refl
-bits_xor (suc n) c d = ap (crc_bits n) (bit_xor c d) ∙ bits_xor n (crc_bit c) (crc_bit d)
+bits_xor (suc n) c d = ap (crc_bits n) (bit_xor_lem c d) ∙ bits_xor n (crc_bit c) (crc_bit d)
 
 -- m bits and n more
 pub bits_add : (m n c : ℕ) → crc_bits (m + n) c ≡ crc_bits n (crc_bits m c)

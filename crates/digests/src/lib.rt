@@ -1,4 +1,5 @@
 // FNV-1a of 64 bits and CRC32-C.
+#![tactic(auto)]
 mod bits;
 pub mod crc;
 mod digits;

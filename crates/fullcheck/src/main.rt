@@ -1,4 +1,5 @@
 // Runs the full check on the image that it reads from standard input, and prints its four numbers.
+#![tactic(auto)]
 ghost use Rattle.std.specs.Prelude.{◌≡◌};
 ghost use Rattle.fullcheck.specs.Program.{program_of};
 

@@ -1,4 +1,5 @@
 // Scan and match: the live slots of an image, listed.
+#![tactic(auto)]
 mod bits;
 pub mod listed;
 pub mod matching;

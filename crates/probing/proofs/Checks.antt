@@ -10,8 +10,8 @@ use Rattle.probing.specs.Check.{never_fall, checks}
 use Rattle.probing.specs.Sound.{Reached, Sound}
 use Rattle.probing.proofs.Reading.{probe_live}
 use Rattle.probing.proofs.Reading.Ends.{found_run}
-use Sentences.{ZeroOrOne, Finds, Passed, checks-passed, passed-checks}
-use Stands.{reached-stands, one-bucket, has-empty}
+use Sentences.{ZeroOrOne, Finds, Passed, checks_passed, passed_checks}
+use Stands.{reached_stands, one_bucket, has_empty}
 pub mod Sentences
 pub mod Stands
 
@@ -35,8 +35,8 @@ passed_sound t ordered live_count_field used tombstones p equal few =
       full = λ b h s l. p.full b l h s;
       different = λ s s' l l' a a' e. same s s' (p.each s l a) (p.each s' l' a') e;
       reached = reached;
-      single = one-bucket t (λ s l a. reached-stands t s (reached s l a)) (omega (arith, p.lives, p.fulls));
-      vacant = has-empty t (omega (arith, p.fulls, p.tombs));
+      single = one_bucket t (λ s l a. reached_stands t s (reached s l a)) (omega (arith, p.lives, p.fulls));
+      vacant = has_empty t (omega (arith, p.fulls, p.tombs));
     }
   where
     reached : (s : ℕ) → s < t.highwater → t.meta s ≡ 1 → Reached t s
@@ -51,7 +51,7 @@ pub checks_sound :
     (t : Table) (ordered : Bool) (live_count_field used tombstones : ℕ)
     → checks t ordered live_count_field used tombstones ≡ true → live_count_field ≡ used → used + tombstones < t.B → Sound t
 checks_sound t ordered live_count_field used tombstones e =
-    passed_sound t ordered live_count_field used tombstones (checks-passed t ordered live_count_field used tombstones e)
+    passed_sound t ordered live_count_field used tombstones (checks_passed t ordered live_count_field used tombstones e)
 
 -- A sound table with metas 0 or 1, the header's counts, and keys that never fall if ordered, passes the full check.
 pub sound_checks :
@@ -59,7 +59,7 @@ pub sound_checks :
     → live_count t ≡ live_count_field → full_count t ≡ used → tombstone_count t ≡ tombstones → (ordered ≡ true → never_fall t ≡ true)
     → checks t ordered live_count_field used tombstones ≡ true
 sound_checks t ordered live_count_field used tombstones sound metas lives fulls tombs order =
-    passed-checks t ordered live_count_field used tombstones (record {
+    passed_checks t ordered live_count_field used tombstones (record {
       full = λ b l h s. sound.full b h s l;
       metas = metas;
       each = λ s l a. (suc (sound.reached s l a).distance, probe_live t sound s l a);

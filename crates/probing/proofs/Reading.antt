@@ -15,8 +15,8 @@ use Rattle.probing.specs.Probe.{Probed, found, absent, broken, home, examine, pr
 use Rattle.probing.specs.Sound.{Reached, Sound}
 use Rattle.probing.proofs.Keys.{clash}
 use Rattle.probing.proofs.Round.{steps_differ, steps_to}
-use Walk.{nth, walk, walk_step, walk-on, probe-walk, Passes, examine-finds}
-use Ends.{found-run}
+use Walk.{nth, walk, walk_step, walk_on, probe_walk, Passes, examine_finds}
+use Ends.{found_run}
 pub mod Walk
 pub mod Ends
 pub mod Bound
@@ -65,14 +65,14 @@ module _ (t : Table) (sound : Sound t) where
   never_broken k b =
       let v = sound.vacant in
       let d = steps_to (home t k) v.0 t.B v.1 in
-      walk_unbroken k t.B 0 d.0 (omega arith) (omega (arith, d.1)) (ap t.bucket d.2 ∙ v.2) (sym (probe-walk t k) ∙ b)
+      walk_unbroken k t.B 0 d.0 (omega arith) (omega (arith, d.1)) (ap t.bucket d.2 ∙ v.2) (sym (probe_walk t k) ∙ b)
 
   -- a key that no live slot has is absent
   pub probe_none : (k : List ℕ) → ((s : ℕ) → s < t.highwater → t.meta s ≡ 1 → t.key s ≡ k → ⊥) → (n : ℕ) × (probe t k ≡ absent n)
   probe_none k none = go (answers (probe t k) (never_broken k))
     where
       go : ((s : ℕ) × (n : ℕ) × (probe t k ≡ found s n)) ⊎ ((n : ℕ) × (probe t k ≡ absent n)) → (n : ℕ) × (probe t k ≡ absent n)
-      go (inl f) = let hit = (found-run t k f.0 f.1 f.2).last in absurd (none f.0 hit.below hit.alive hit.keyed)
+      go (inl f) = let hit = (found_run t k f.0 f.1 f.2).last in absurd (none f.0 hit.below hit.alive hit.keyed)
       go (inr a) = a
 
   -- the buckets on the way to a live slot let a probe for its key go on
@@ -101,13 +101,13 @@ module _ (t : Table) (sound : Sound t) where
   -- a live slot's key is found there, at the count of its distance and one
   pub probe_live : (s : ℕ) (l : s < t.highwater) (a : t.meta s ≡ 1) → probe t (t.key s) ≡ found s (suc (sound.reached s l a).distance)
   probe_live s l a =
-      probe-walk t k
+      probe_walk t k
       ∙ ap (λ (x : ℕ). walk t k x 0) split
-      ∙ walk-on t k (suc left) 0 d (λ j z m. way_passes s l a j (omega arith))
+      ∙ walk_on t k (suc left) 0 d (λ j z m. way_passes s l a j (omega arith))
       ∙ ap (walk t k (suc left)) (zero-add d)
       ∙ walk_step t k left d
       ∙ ap (examine t k (suc d) (walk t k left (suc d))) r.stands
-      ∙ examine-finds t k (suc d) (walk t k left (suc d)) s l a refl
+      ∙ examine_finds t k (suc d) (walk t k left (suc d)) s l a refl
     where
       r : Reached t s
       r = sound.reached s l a
@@ -127,7 +127,7 @@ module _ (t : Table) (sound : Sound t) where
   -- a probe finds a slot just where the slot is live and has the key
   pub found_iff : (k : List ℕ) (s : ℕ) → ((n : ℕ) × (probe t k ≡ found s n)) ↔ ((s < t.highwater) × (t.meta s ≡ 1) × (t.key s ≡ k))
   found_iff k s = (
-    λ f. let hit = (found-run t k s f.0 f.1).last in (hit.below, hit.alive, hit.keyed),
+    λ f. let hit = (found_run t k s f.0 f.1).last in (hit.below, hit.alive, hit.keyed),
     λ h. (suc (sound.reached s h.0 h.1).distance, ap (probe t) (sym h.2) ∙ probe_live s h.0 h.1),
   )
 

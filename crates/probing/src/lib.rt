@@ -1,1 +1,2 @@
 // The mathematics of a table with linear probing: definitions in specs/, laws in proofs/. Nothing here runs.
+#![tactic(auto)]

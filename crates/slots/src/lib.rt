@@ -1,2 +1,3 @@
 // The writes that a commit is made of.
+#![tactic(auto)]
 pub mod slots;

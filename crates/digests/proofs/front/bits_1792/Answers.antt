@@ -1,0 +1,14 @@
+-- `front::bits_1792` meets its contract: its numbers are images.
+-- Assumes nothing.
+use Rattle.std.proofs.Common.{lit<}
+use Rattle.digests.specs.Crc.{crc_bit, crc_bits}
+use Rattle.digests.proofs.Images.{descend, looked_up}
+use Rattle.digests.proofs.Mixed.{further}
+use Rattle.digests.proofs.Powers.{power}
+use Rattle.digests.proofs.front.bits_1792.Goals as goal
+
+pub returns : goal.returns
+unfolding crc_bits crc_bit descend
+returns c =
+    let x = c.args.x in
+    looked_up 25 1728 39 _ _ x (power 10 (lit< tt)) (further _ _ x (further _ _ x (further _ _ x (further _ _ x c.mix.ensures c.mix-2.ensures) c.mix-3.ensures) c.mix-4.ensures) c.mix-5.ensures) c.if-x-ge33554432.false tt
