@@ -32,7 +32,7 @@ use Rattle.probing.proofs.Reading.{never_broken}
 use Rattle.probing.proofs.Report.{OnWay, turned, goes_on, reports, Vacant, Held, stopped, clear_place}
 use Rattle.header.specs.declared.shape.Layout.{Layout}
 use Rattle.batch.specs.Batch.{most_records, record_count, record_key, decides}
-use Rattle.batch.specs.Index.{index_size_stands, following, entry_bucket, record_table, stops_at, Indexed}
+use Rattle.batch.specs.Index.{index_buckets, following, entry_bucket, record_table, stops_at, Indexed}
 use Rattle.batch.proofs.Deciding.{decides_last, last_decides, one_decides, deciding}
 use Rattle.batch.proofs.Every.{flag_up}
 use Rattle.batch.proofs.Noted.{zeros, zero_at}
@@ -82,12 +82,12 @@ module _ (l : Layout) (batch : List ℕ) where
   empty_entry e q = rw q
 
   -- no entry yet
-  pub index_none : Indexed l batch (zeros index_size_stands) 0
+  pub index_none : Indexed l batch (zeros index_buckets) 0
   unfolding record_table rebuilt_to
   index_none =
       record {
-        entries = record { size = refl; inside = λ b. omega (arith, zero_at index_size_stands b) };
-        buckets = λ b h. empty_entry _ (zero_at index_size_stands b);
+        entries = record { size = refl; inside = λ b. omega (arith, zero_at index_buckets b) };
+        buckets = λ b h. empty_entry _ (zero_at index_buckets b);
       }
 
   -- the records as slots, without an index
@@ -122,20 +122,20 @@ module _ (l : Layout) (batch : List ℕ) where
       now = record_table l batch index
 
       -- a FULL bucket is of one of them, which decides
-      full : (b : ℕ) → b < index_size_stands → (h s : ℕ) → now.bucket b ≡ FULL h s → (s < now.highwater) × (now.meta s ≡ 1)
+      full : (b : ℕ) → b < index_buckets → (h s : ℕ) → now.bucket b ≡ FULL h s → (s < now.highwater) × (now.meta s ≡ 1)
       unfolding record_table
       full b below h s q =
           let f = (sound n (omega arith)).sound.full b h s below (sym (indexed.buckets b below) ∙ q) in
           (omega (arith, f.0), f.1)
 
       -- the probe for the key of record i, bucket by bucket: a bucket that does not end it, and one that does
-      pub probe_on : {b m p : ℕ} → b < index_size_stands → m < index_size_stands → OnWay now key b m p → stops_at now key (now.bucket b) ≡ false
-          → OnWay now key ((b + 1) % index_size_stands) (m + 1) (or_tombstone now p b)
+      pub probe_on : {b m p : ℕ} → b < index_buckets → m < index_buckets → OnWay now key b m p → stops_at now key (now.bucket b) ≡ false
+          → OnWay now key ((b + 1) % index_buckets) (m + 1) (or_tombstone now p b)
       unfolding record_table
       probe_on {b} {m} below few way e =
           goes_on now key way few (turned now key way few ∙ passes_on now key (m + 1) _ (now.bucket b) e (full b below))
 
-      pub probe_ends : {b m p : ℕ} → b < index_size_stands → m < index_size_stands → OnWay now key b m p → stops_at now key (now.bucket b) ≡ true
+      pub probe_ends : {b m p : ℕ} → b < index_buckets → m < index_buckets → OnWay now key b m p → stops_at now key (now.bucket b) ≡ true
           → (report now key).bucket ≡ b
       unfolding record_table
       probe_ends {b} {m} below few way e =
@@ -146,7 +146,7 @@ module _ (l : Layout) (batch : List ℕ) where
       abbrev at : ℕ
       at = (report now key).bucket
 
-      pub at_below : at < index_size_stands
+      pub at_below : at < index_buckets
       unfolding record_table report
       at_below = mod-lt _ (omega arith)
 
@@ -263,7 +263,7 @@ module _ (l : Layout) (batch : List ℕ) where
       entries_grow b (yes q) = rw (new_entry b q) (omega arith)
       entries_grow b (no q) = rw (old_entry b q) (indexed.entries.inside b)
 
-      buckets_grow : (b : ℕ) → b < index_size_stands → entry_bucket l batch (get_or (set index at (i + 1)) b 0) ≡ update (rebuilt_to slots n).bucket at (entry_bucket l batch (i + 1)) b
+      buckets_grow : (b : ℕ) → b < index_buckets → entry_bucket l batch (get_or (set index at (i + 1)) b 0) ≡ update (rebuilt_to slots n).bucket at (entry_bucket l batch (i + 1)) b
       unfolding record_table
       buckets_grow b h =
           by_update (rebuilt_to slots n).bucket at (entry_bucket l batch (i + 1)) b

@@ -10,8 +10,8 @@ use Rattle.header.specs.declared.shape.Layout.{Layout}
 use Rattle.batch.specs.Batch.{most_records, record_count, record_key, decides}
 
 -- the number of buckets
-abbrev pub index_size_stands : ℕ
-index_size_stands = 2 * most_records
+abbrev pub index_buckets : ℕ
+index_buckets = 2 * most_records
 
 -- the slot of record i, and the record of slot i: so many others follow it
 abbrev pub following : Layout → List ℕ → ℕ → ℕ
@@ -26,7 +26,7 @@ entry_bucket l batch (suc i) = FULL (fnv1a64 (record_key l batch i)) (following 
 unfoldable pub record_table : Layout → List ℕ → List ℕ → Table
 record_table l batch index =
     record {
-      B = index_size_stands;
+      B = index_buckets;
       highwater = record_count l batch;
       bucket = λ b. entry_bucket l batch (get_or index b 0);
       meta = λ n. one (decides l batch (following l batch n));
@@ -36,13 +36,13 @@ record_table l batch index =
 
 -- an index whose entries are of records
 pub record Entries (l : Layout) (batch index : List ℕ) : Type 0 where
-  pub size : length index ≡ index_size_stands
+  pub size : length index ≡ index_buckets
   pub inside : (b : ℕ) → get_or index b 0 ≤ record_count l batch
 
 -- the index of the last n records
 pub record Indexed (l : Layout) (batch index : List ℕ) (n : ℕ) : Type 0 where
   pub entries : Entries l batch index
-  pub buckets : (b : ℕ) → b < index_size_stands → (record_table l batch index).bucket b ≡ (rebuilt_to (record_table l batch []) n).bucket b
+  pub buckets : (b : ℕ) → b < index_buckets → (record_table l batch index).bucket b ≡ (rebuilt_to (record_table l batch []) n).bucket b
 
 -- whether a bucket of the index ends a probe for a key: it is EMPTY, or has the key's hash and a slot with the key
 abbrev pub stops_at : Table → List ℕ → Bucket → Bool

@@ -4,7 +4,7 @@ ghost use Rattle.probing.specs.Counting.{one};
 ghost use Rattle.probing.specs.Report.{report};
 ghost use Rattle.batch.specs.Batch.{SlotSized, most_records, record_count, record_key, decides};
 ghost use Rattle.batch.specs.Notes.{Noted, hash_of};
-ghost use Rattle.batch.specs.Index.{index_size_stands, following, record_table, stops_at, Entries, Indexed};
+ghost use Rattle.batch.specs.Index.{index_buckets, following, record_table, stops_at, Entries, Indexed};
 
 use crate::batch::{MOST_RECORDS, record_count, record_key};
 use digests::fnv::fnv1a64_of;
@@ -33,7 +33,7 @@ pub fn hash_keys(batch: &[u8], l: Layout) -> [u64; MOST_RECORDS]
 // Whether bucket b of the index is EMPTY or has a record with the key of record i.
 fn stops_at(batch: &[u8], l: Layout, hashes: &[u64], index: &[u16], i: usize, b: usize) -> bool
     requires slot_sized { SlotSized l }
-    requires i_bound { (i < record_count l batch.now) × (b < index_size_stands) }
+    requires i_bound { (i < record_count l batch.now) × (b < index_buckets) }
     requires noted { Noted (hash_of l batch.now) (record_count l batch.now) hashes.now }
     requires entries { Entries l batch.now index.now }
     ensures { result ≡ stops_at (record_table l batch.now index.now) (record_key l batch.now i) ((record_table l batch.now index.now).bucket b) }

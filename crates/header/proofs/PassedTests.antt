@@ -103,7 +103,7 @@ module _ (o : Options) (image : List ℕ) where
   -- "key_size, index_size, slot_size, slot_capacity, user_version or ordered flag not as the options say" (CR 10): none of these
   pub record Agreed : Type 0 where
     pub key : value image F.key_size_field ≡ o.key_size
-    pub index : value image F.index_size_stands ≡ o.index_size
+    pub index : value image F.index_size_field ≡ o.index_size
     pub slot : value image F.slot_size_field ≡ slot_size o.key_size o.index_size
     pub capacity : capacity_fits o.slot_capacity (value image F.slot_capacity_field) ≡ true
     pub version : value image F.user_version ≡ o.user_version
@@ -113,7 +113,7 @@ module _ (o : Options) (image : List ℕ) where
   unfolding test8
   agreed z =
       let k : Bool = eqb (value image F.key_size_field) o.key_size in
-      let i : Bool = eqb (value image F.index_size_stands) o.index_size in
+      let i : Bool = eqb (value image F.index_size_field) o.index_size in
       let s : Bool = eqb (value image F.slot_size_field) (slot_size o.key_size o.index_size) in
       let c : Bool = capacity_fits o.slot_capacity (value image F.slot_capacity_field) in
       let v : Bool = eqb (value image F.user_version) o.user_version in

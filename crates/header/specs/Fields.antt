@@ -46,8 +46,8 @@ header_size = 2
 abbrev pub key_size_field : ℕ
 key_size_field = 3
 
-abbrev pub index_size_stands : ℕ
-index_size_stands = 4
+abbrev pub index_size_field : ℕ
+index_size_field = 4
 
 abbrev pub slot_size_field : ℕ
 slot_size_field = 5

@@ -71,7 +71,7 @@ test7 image = (eqb (value image F.state) INVALIDATED, invalidated) ∷ []
 unfoldable pub test8 : Options → List ℕ → List (Bool × ℕ)
 test8 o image = (
   not
-      (eqb (value image F.key_size_field) o.key_size && eqb (value image F.index_size_stands) o.index_size
+      (eqb (value image F.key_size_field) o.key_size && eqb (value image F.index_size_field) o.index_size
       && eqb (value image F.slot_size_field) (slot_size o.key_size o.index_size)
       && capacity_fits o.slot_capacity (value image F.slot_capacity_field) && eqb (value image F.user_version) o.user_version
       && eqb (value image F.flags) o.ordered),
@@ -133,7 +133,7 @@ unfoldable pub layout_of : List ℕ → Layout
 layout_of image =
     record {
       key_size = value image F.key_size_field;
-      index_size = value image F.index_size_stands;
+      index_size = value image F.index_size_field;
       slot_size = value image F.slot_size_field;
       slot_capacity = value image F.slot_capacity_field;
       bucket_count = value image F.bucket_count_field;

@@ -4,7 +4,7 @@ ghost use Rattle.header.specs.Fields.{field_of, value, bytes_in};
 
 use numbers::words::{u32_at, u64_at};
 
-#[derive(Drop)]
+#[derive(Clone, Copy)]
 pub struct Field {
     pub offset: usize,
     pub width: usize,

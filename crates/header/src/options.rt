@@ -3,7 +3,7 @@ ghost use Rattle.std.specs.Prelude.{◌≡◌};
 ghost use Rattle.header.specs.Bench.{bench_options};
 
 // Any numbers may be passed; the header test refuses those outside the sizes.
-#[derive(Drop)]
+#[derive(Clone, Copy)]
 pub struct Options {
     pub key_size: u64,
     pub index_size: u64,

@@ -1,7 +1,7 @@
 // What the header test hands on of an image that passes it: every number that later code needs.
 
 // Where slots and buckets lie, and whether keys are in order. No call after create changes it.
-#[derive(Drop)]
+#[derive(Clone, Copy)]
 pub struct Layout {
     pub key_size: usize,
     pub index_size: usize,
@@ -13,7 +13,7 @@ pub struct Layout {
 }
 
 // The layout, and beside it what calls change.
-#[derive(Drop)]
+#[derive(Clone, Copy)]
 pub struct Shape {
     pub layout: Layout,
     pub slot_highwater: usize,

@@ -88,7 +88,7 @@ module _ (o : Options) (start : List ℕ) (holds : Holds o start) (n : ℕ) (ima
   eighth' : (role : ℕ) → first_of (test8 (with_role o role) after) ≡ 0
   unfolding test8
   eighth' role =
-      rw (v F.key_size_field tt tt, v F.index_size_stands tt tt, v F.slot_size_field tt tt, v F.slot_capacity_field tt tt, v F.user_version tt tt, v F.flags tt tt) holds.eighth
+      rw (v F.key_size_field tt tt, v F.index_size_field tt tt, v F.slot_size_field tt tt, v F.slot_capacity_field tt tt, v F.user_version tt tt, v F.flags tt tt) holds.eighth
 
   ninth' : first_of (test9 after) ≡ 0
   unfolding test9

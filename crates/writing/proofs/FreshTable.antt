@@ -75,7 +75,7 @@ module _ (o : Options) (first : first_of (create_test1 o) ≡ 0) (version : Fits
   pub fresh_shape_lem : shape_of (fresh o) ≡ fresh_shape o
   unfolding shape_of layout_of fresh_fields
   fresh_shape_lem =
-      rw (v F.key_size_field tt, v F.index_size_stands tt, v F.slot_size_field tt, v F.slot_capacity_field tt, v F.slot_highwater tt, v F.live_count_field tt, v F.bucket_count_field tt, v F.bucket_tombstones tt, v F.buckets_offset_field tt, v F.flags tt, v F.state tt, v F.generation tt) refl
+      rw (v F.key_size_field tt, v F.index_size_field tt, v F.slot_size_field tt, v F.slot_capacity_field tt, v F.slot_highwater tt, v F.live_count_field tt, v F.bucket_count_field tt, v F.bucket_tombstones tt, v F.buckets_offset_field tt, v F.flags tt, v F.state tt, v F.generation tt) refl
 
   pub fresh_bucket : (b : ℕ) → b < bucket_count o.slot_capacity → bucket_of (fresh_shape o).layout (fresh o) b ≡ EMPTY
   unfolding bucket_of bucket_at bucket_from

@@ -59,7 +59,7 @@ module _ (o : Options) (image : List ℕ) (first : first_of (create_test1 o) ≡
   eighth : (role : ℕ) → first_of (test8 (with_role o role) image) ≡ 0
   unfolding test8 first_of fresh_fields
   eighth role =
-      rw (v F.key_size_field tt, v F.index_size_stands tt, v F.slot_size_field tt, v F.slot_capacity_field tt, v F.user_version tt, v F.flags tt, eq-eqb o.key_size o.key_size refl, eq-eqb o.index_size o.index_size refl, eq-eqb (slot_size o.key_size o.index_size) (slot_size o.key_size o.index_size) refl, own_capacity o.slot_capacity (create_sized o first).capacity_low, eq-eqb o.user_version o.user_version refl, eq-eqb o.ordered o.ordered refl) refl
+      rw (v F.key_size_field tt, v F.index_size_field tt, v F.slot_size_field tt, v F.slot_capacity_field tt, v F.user_version tt, v F.flags tt, eq-eqb o.key_size o.key_size refl, eq-eqb o.index_size o.index_size refl, eq-eqb (slot_size o.key_size o.index_size) (slot_size o.key_size o.index_size) refl, own_capacity o.slot_capacity (create_sized o first).capacity_low, eq-eqb o.user_version o.user_version refl, eq-eqb o.ordered o.ordered refl) refl
 
   ninth : first_of (test9 image) ≡ 0
   unfolding test9 first_of fresh_fields

@@ -101,7 +101,7 @@ module _ (o : Options) (image image' : List ℕ) (kept : Kept image image') (hol
   eighth' : (role : ℕ) → first_of (test8 (with_role o role) image') ≡ 0
   unfolding test8
   eighth' role =
-      rw (v F.key_size_field tt, v F.index_size_stands tt, v F.slot_size_field tt, v F.slot_capacity_field tt, v F.user_version tt, v F.flags tt) holds.eighth
+      rw (v F.key_size_field tt, v F.index_size_field tt, v F.slot_size_field tt, v F.slot_capacity_field tt, v F.user_version tt, v F.flags tt) holds.eighth
 
   ninth' : first_of (test9 image') ≡ 0
   unfolding test9

@@ -38,7 +38,7 @@ module _ (image image' : List ℕ) (kept : Kept image image') where
   pub kept_shape : shape_of image' ≡ moved (shape_of image) (value image' F.state) (value image' F.generation)
   unfolding shape_of layout_of
   kept_shape =
-      rw (v F.key_size_field tt, v F.index_size_stands tt, v F.slot_size_field tt, v F.slot_capacity_field tt, v F.slot_highwater tt, v F.live_count_field tt, v F.bucket_count_field tt, v F.bucket_tombstones tt, v F.buckets_offset_field tt, v F.flags tt) refl
+      rw (v F.key_size_field tt, v F.index_size_field tt, v F.slot_size_field tt, v F.slot_capacity_field tt, v F.slot_highwater tt, v F.live_count_field tt, v F.bucket_count_field tt, v F.bucket_tombstones tt, v F.buckets_offset_field tt, v F.flags tt) refl
 
   module _ (s : Shape) (offset : 256 ≤ s.layout.buckets_offset) where
     kept_bucket : (b : ℕ) → bucket_of s.layout image' b ≡ bucket_of s.layout image b

@@ -21,7 +21,7 @@ fresh_fields o =
     ∷ (F.version, 1)
     ∷ (F.header_size, 256)
     ∷ (F.key_size_field, o.key_size)
-    ∷ (F.index_size_stands, o.index_size)
+    ∷ (F.index_size_field, o.index_size)
     ∷ (F.slot_size_field, slot_size o.key_size o.index_size)
     ∷ (F.hash_alg, 1)
     ∷ (F.flags, o.ordered)

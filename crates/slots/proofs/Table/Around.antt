@@ -106,7 +106,7 @@ pub around_shape : {image image' : List ℕ} → Around image image' → shape_o
 unfolding shape_of layout_of value
 around_shape k =
     let b = around_bytes k in
-    rw (b F.key_size_field, b F.index_size_stands, b F.slot_size_field, b F.slot_capacity_field, b F.slot_highwater, b F.live_count_field, b F.bucket_count_field, b F.bucket_tombstones, b F.buckets_offset_field, b F.flags, b F.state, b F.generation) refl
+    rw (b F.key_size_field, b F.index_size_field, b F.slot_size_field, b F.slot_capacity_field, b F.slot_highwater, b F.live_count_field, b F.bucket_count_field, b F.bucket_tombstones, b F.buckets_offset_field, b F.flags, b F.state, b F.generation) refl
 
 -- the layout is still that of the image, and so is the shape
 pub around_laid : {layout : Layout} {image image' : List ℕ} → Around image image' → LaidOut layout image → LaidOut layout image'

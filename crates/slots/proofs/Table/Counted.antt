@@ -91,7 +91,7 @@ module _ (s : Shape) (image : List ℕ) (fit : Shaped s image) where
     unfolding shape_of layout_of
     counted_shape_lem =
         let v = counted_value in
-        rw (v F.key_size_field tt, v F.index_size_stands tt, v F.slot_size_field tt, v F.slot_capacity_field tt, v F.slot_highwater tt, v F.live_count_field tt, v F.bucket_count_field tt, v F.bucket_tombstones tt, v F.buckets_offset_field tt, v F.flags tt, v F.state tt, v F.generation tt) refl
+        rw (v F.key_size_field tt, v F.index_size_field tt, v F.slot_size_field tt, v F.slot_capacity_field tt, v F.slot_highwater tt, v F.live_count_field tt, v F.bucket_count_field tt, v F.bucket_tombstones tt, v F.buckets_offset_field tt, v F.flags tt, v F.state tt, v F.generation tt) refl
 
   -- "CRC differs": it does not
   pub counted_crc : Bytes image → value (counted s image) F.header_crc32c ≡ header_crc (counted s image)

@@ -8,7 +8,7 @@ use lib.ListN.{get_or, set}
 use Rattle.probing.specs.Counting.{one}
 use Rattle.probing.specs.Report.{report}
 use Rattle.batch.specs.Batch.{record_count, record_key}
-use Rattle.batch.specs.Index.{index_size_stands, record_table, Indexed}
+use Rattle.batch.specs.Index.{index_buckets, record_table, Indexed}
 use Rattle.batch.proofs.Indexing.{at_below, vacant_decides, taken_decides, index_stays, index_grows}
 use Rattle.batch.proofs.decided.enter.Statement.{statement}
 use Rattle.batch.proofs.decided.enter.Tie as tie
@@ -17,7 +17,7 @@ use Rattle.batch.proofs.decided.enter.Tie as tie
 abbrev at : tie.Start → ℕ
 at b = (report (record_table b.args.l b.args.batch.now b.args.index.now) (record_key b.args.l b.args.batch.now b.args.i)).bucket
 
-below : (b : tie.Start) (r : ℕ) → r ≡ at b → r < index_size_stands
+below : (b : tie.Start) (r : ℕ) → r ≡ at b → r < index_buckets
 below b r e =
     let a = b.args in
     rw e (at_below a.l a.batch.now b.requires.1.1.0.fits a.index.now a.i b.requires.1.0 b.requires.1.1.1)

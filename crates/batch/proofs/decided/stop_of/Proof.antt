@@ -7,14 +7,14 @@ use native.Mathlib.Nat.{mod-lt}
 use native.Mathlib.Omega.{arith}
 use Rattle.probing.proofs.Report.{OnWay, starts, runs_out}
 use Rattle.batch.specs.Batch.{record_key}
-use Rattle.batch.specs.Index.{index_size_stands, record_table}
+use Rattle.batch.specs.Index.{index_buckets, record_table}
 use Rattle.batch.proofs.Indexing.{probe_on, probe_ends, probe_unbroken}
 use Rattle.batch.proofs.decided.stop_of.Statement.{statement}
 use Rattle.batch.proofs.decided.stop_of.Tie as tie
 
 abbrev invariant-loop : tie.invariant-loop
 invariant-loop batch l hashes index i b₀ left₀ b left =
-    (b < index_size_stands) × (left ≤ index_size_stands) × ((p : ℕ) × OnWay (record_table l batch index) (record_key l batch i) b (index_size_stands - left) p)
+    (b < index_buckets) × (left ≤ index_buckets) × ((p : ℕ) × OnWay (record_table l batch index) (record_key l batch i) b (index_buckets - left) p)
 
 abbrev decreases-loop : tie.decreases-loop
 decreases-loop batch l hashes index i b₀ left₀ b left = left
@@ -36,7 +36,7 @@ loop-holds c =
     let hashed = b.requires.1.1.0.each a.i b.requires.1.0 in
     let t = record_table a.l a.batch.now a.index.now in
     let key = record_key a.l a.batch.now a.i in
-    (mod-lt _ (omega arith), omega arith, (index_size_stands, subst (λ (h : ℕ). OnWay t key (h % index_size_stands) 0 index_size_stands) (sym hashed) (starts t key)))
+    (mod-lt _ (omega arith), omega arith, (index_buckets, subst (λ (h : ℕ). OnWay t key (h % index_buckets) 0 index_buckets) (sym hashed) (starts t key)))
 
 stops-at-requires : tie.Need-stops-at-requires invariant-loop decreases-loop
 stops-at-requires c κs = search rules
@@ -66,7 +66,7 @@ loop-again c =
     let l = c.before.before.before.loop in
     let way = probe_on a.l a.batch.now b.requires.1.1.0.fits a.index.now a.i b.requires.1.0 b.requires.1.1.1 l.invariant.0 (omega arith) l.invariant.2.1
     (sym c.before.stops_at.ensures ∙ c.if1.false) in
-    let more : index_size_stands - l.left + 1 ≡ index_size_stands - (l.left - 1) = omega (arith, l.invariant.1) in
+    let more : index_buckets - l.left + 1 ≡ index_buckets - (l.left - 1) = omega (arith, l.invariant.1) in
     (mod-lt _ (omega arith), omega arith, (_, rw more at way))
 
 returns-2 : tie.Need-returns-2 invariant-loop decreases-loop
