@@ -45,7 +45,7 @@ fn hash_of(key: &[u8]) -> u64
 }
 
 // Lookup in an image that passed the header test, of a key with this hash.
-fn lookup_in(image: &[u8], s: Shape, key: &[u8], hash: u64) -> Lookup
+fn lookup_hashed(image: &[u8], s: Shape, key: &[u8], hash: u64) -> Lookup
     requires shaped { Shaped s image.now }
     requires hashed { Hashed hash key.now }
     ensures { result ≡ lookup_in s image.now key.now }
@@ -74,6 +74,14 @@ fn lookup_in(image: &[u8], s: Shape, key: &[u8], hash: u64) -> Lookup
     }
 }
 
+// Lookup in an image that passed the header test.
+fn lookup_in(image: &[u8], s: Shape, key: &[u8]) -> Lookup
+    requires { Shaped s image.now }
+    ensures { result ≡ lookup_in s image.now key.now }
+{
+    lookup_hashed(image, s, key, hash_of(key))
+}
+
 // Lookup: the header test, the key's length, then the probe. The key is hashed first: neither hash nor test needs the other, and a
 // processor goes on with both at once.
 pub fn look_up(image: &[u8], o: Options, key: &[u8]) -> Lookup
@@ -82,7 +90,7 @@ pub fn look_up(image: &[u8], o: Options, key: &[u8]) -> Lookup
     let hash = hash_of(key);
     let judged = judge(image, o);
     match judged {
-        Judged::Fit(s) => lookup_in(image, s, key, hash),
+        Judged::Fit(s) => lookup_hashed(image, s, key, hash),
         Judged::Refused(answer) => refused(answer),
     }
 }
@@ -94,7 +102,7 @@ pub fn index_part<'a>(image: &'a [u8], o: Options, key: &[u8]) -> &'a [u8]
     let judged = judge(image, o);
     match judged {
         Judged::Fit(s) => {
-            let found = lookup_in(image, s, key, hash_of(key));
+            let found = lookup_in(image, s, key);
             if found.answer == DONE {
                 return index_of(image, s.layout, found.slot as usize);
             }
