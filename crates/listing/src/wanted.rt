@@ -6,7 +6,7 @@ use crate::bits::agrees_at;
 
 // Every key, or those that have a pattern's bits from a byte offset on. The pattern is a slice, which no enum holds: it is
 // passed beside this.
-#[derive(Drop)]
+#[derive(Clone, Copy)]
 pub enum Wanted {
     All,
     Bits { offset: usize, bits: usize },

@@ -1,0 +1,10 @@
+-- `listing::matching::bits_compared` meets its contract.
+-- Assumes nothing.
+use Rattle.listing.proofs.Pattern.{compared_all, compared_asked}
+use Rattle.listing.proofs.matching.bits_compared.Goals as goal
+
+pub returns-then-bits-ne0 : goal.returns-then-bits-ne0
+returns-then-bits-ne0 c = let a = c.args in compared_asked a.bits a.pattern.now c.if-bits-ne0.true
+
+pub returns : goal.returns
+returns c = let a = c.args in compared_all a.bits a.pattern.now c.if-bits-ne0.false
