@@ -16,7 +16,7 @@ use header::shape::{Layout, Shape};
 use numbers::parts::same_bytes;
 
 // What a probe ends in: the key's slot, or no such key, each with the number of buckets examined; or a broken table.
-#[derive(Drop)]
+#[derive(Clone, Copy)]
 pub enum Probe {
     Found { slot: usize, buckets: usize },
     Absent { buckets: usize },
@@ -25,7 +25,7 @@ pub enum Probe {
 
 // What a probe reports: what it ended in; the bucket where it stopped; and the first TOMBSTONE that it passed, where B, which is
 // no bucket, stands for none. Of a broken table these two are nobody's.
-#[derive(Drop)]
+#[derive(Clone, Copy)]
 pub struct Report {
     pub end: Probe,
     pub bucket: usize,
