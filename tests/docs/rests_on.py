@@ -14,7 +14,7 @@ CRATES = os.path.join(ROOT, "crates")
 # where a reader begins
 STATEMENTS = ("Demand1", "Demand2", "Demand3", "Examples", "WholeLength", "ExactLength", "ForeignShapes", "OneProbe", "Calls", "Exports")
 
-NAMED = re.compile(r"^use Rattle·(\w+)(?:·specs)?\.specs\.(?:specs\.)?(\w+)", re.M)
+NAMED = re.compile(r"^use Rattle\.(\w+)\.specs\.(\w+)", re.M)
 
 
 def text(*path):

@@ -20,7 +20,7 @@ from images import Images, fresh, least_buckets, record_of
 CRATES = os.path.abspath(os.path.join(os.path.dirname(__file__), "..", "..", "crates"))
 # the calls, by what demand 1 names them
 JUDGED = {"create": "create", "open": "open_check", "begin": "begin", "commit": "commit", "checkpoint": "checkpoint",
-          "invalidate": "invalidate", "user-slice": "set_user_fields", "lookup": "lookup", "scan": "scan", "match": "match",
+          "invalidate": "invalidate", "user_slice": "set_user_fields", "lookup": "lookup", "scan": "scan", "match": "match",
           "check": "full_check"}
 
 
@@ -374,13 +374,13 @@ def spec(*path):
 
 def numbers_listed():
     """For each call, the numbers that demand 1 says it can answer."""
-    number = {name: int(n) for name, n in re.findall(r"^([\w-]+) = (\d+)$", spec("header", "specs", "Answer.antt"), re.M)}
+    number = {name: int(n) for name, n in re.findall(r"^(\w+) = (\d+)$", spec("header", "specs", "Answer.antt"), re.M)}
     demand = spec("demands", "specs", "Demand1.antt")
-    header = re.findall(r"[\w-]+(?= ∷)", re.search(r"headerNumbers =\s*(.*\[\])", demand).group(1))
-    listed = re.findall(r"pub ([\w-]+)-judges :.*?(?:Judges|Among) (\([^)]*\)|\w+) \(", demand, re.S)
+    header = re.findall(r"\w+(?= ∷)", re.search(r"header_numbers =\s*(.*\[\])", demand).group(1))
+    listed = re.findall(r"pub (\w+)_judges :.*?(?:Judges|Among) (\([^)]*\)|\w+) \(", demand, re.S)
     for call, names in listed:
         if call in JUDGED:
-            own = re.findall(r"[\w-]+(?= ∷)", names) + (header if "headerNumbers" in names else [])
+            own = re.findall(r"\w+(?= ∷)", names) + (header if "header_numbers" in names else [])
             yield JUDGED[call], {number[name] for name in own}
 
 

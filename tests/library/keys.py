@@ -10,20 +10,22 @@ import random
 import shutil
 import subprocess
 import sys
+import tempfile
 
 ROOT = os.path.abspath(os.path.join(os.path.dirname(__file__), "..", ".."))
 LONGEST = 72
 
 EXPORTS = """// The comparisons of keys, for C.
+#![tactic(auto)]
 use numbers::parts::comes_before;
 use numbers::parts::same_bytes;
 
-#[no_mangle]
+#[unsafe(no_mangle)]
 pub extern "C" fn keys_same(a: &[u8], b: &[u8]) -> bool {
     same_bytes(a, b)
 }
 
-#[no_mangle]
+#[unsafe(no_mangle)]
 pub extern "C" fn keys_before(a: &[u8], b: &[u8]) -> bool {
     comes_before(a, b)
 }
@@ -44,20 +46,22 @@ def write(path, text):
 
 
 def built(revision):
-    """The comparisons of a revision, or of the tree as it is, as a shared object: proved and compiled in a repository of their own."""
-    folder = os.path.join(ROOT, "target", "keys", revision or "tree")
-    shutil.rmtree(folder, ignore_errors=True)
-    write(os.path.join(folder, "crates.txt"), "numbers:\nkeys: numbers\n")
-    write(os.path.join(folder, "crates", "keys", "src", "lib.rt"), EXPORTS)
-    if revision:
-        run("git", "archive", "-o", os.path.join(folder, "numbers.tar"), revision, "crates/numbers")
-        run("tar", "-xf", "numbers.tar", folder=folder)
-    else:
-        shutil.copytree(os.path.join(ROOT, "crates", "numbers"), os.path.join(folder, "crates", "numbers"))
-    run("rt", "check", folder=folder)
-    run(os.path.join(ROOT, "tools", "archive"), "keys", folder=folder)
-    run("gcc", "-shared", "-o", "libkeys.so", "-Wl,--whole-archive", "target/native/libkeys.a", "-Wl,--no-whole-archive", folder=folder)
-    return os.path.join(folder, "libkeys.so")
+    """The comparisons of a revision that this toolchain proves, or of the tree as it is, as a shared object: proved and compiled in a
+    repository of their own, which rt wants outside this one."""
+    made = os.path.join(ROOT, "target", "keys", f"lib{revision or 'tree'}.so")
+    os.makedirs(os.path.dirname(made), exist_ok=True)
+    with tempfile.TemporaryDirectory(prefix="slc1-keys-") as folder:
+        write(os.path.join(folder, "crates.txt"), "numbers:\nkeys staticlib: numbers\n")
+        write(os.path.join(folder, "crates", "keys", "src", "lib.rt"), EXPORTS)
+        if revision:
+            run("git", "archive", "-o", os.path.join(folder, "numbers.tar"), revision, "crates/numbers")
+            run("tar", "-xf", "numbers.tar", folder=folder)
+        else:
+            sources = shutil.ignore_patterns("out")
+            shutil.copytree(os.path.join(ROOT, "crates", "numbers"), os.path.join(folder, "crates", "numbers"), ignore=sources)
+        run(os.path.join(ROOT, "tools", "archive"), "keys", folder=folder)
+        run("gcc", "-shared", "-o", made, "-Wl,--whole-archive", "target/native/libkeys.a", "-Wl,--no-whole-archive", folder=folder)
+    return made
 
 
 class Keys:

@@ -1,13 +1,11 @@
 """Runs the program fullcheck on images of the bench's shape, and compares what it prints with the second program.
 
-usage: fullcheck_runs.py [--write]
+usage: fullcheck_runs.py [--write]     after `rt ci`, which builds the program
   The stored run, crates/fullcheck/stdin and stdout, is made again and compared as well; --write writes it and runs nothing.
 """
 
 import os
-import platform
 import random
-import shutil
 import subprocess
 import sys
 
@@ -60,15 +58,10 @@ def inputs():
         yield f"{length} bytes of two images, one behind the other", (image + image)[:length]
 
 
-def command():
-    """The program is for x86-64; on another processor the toolchain's emulator runs it."""
-    rt = os.path.realpath(shutil.which("rt"))
-    home = os.environ.get("RATTLE_HOME", os.path.dirname(os.path.dirname(rt)))
-    tools = os.path.join(home, "on", platform.machine(), "toolchain")
-    emulator = os.path.join(tools, "bin", "qemu-x86_64")
-    return ([emulator] if os.path.exists(emulator) else []) + [
-        os.path.join(tools, "lib", "ld-linux-x86-64.so.2"), "--library-path", os.path.join(tools, "lib"),
-        os.path.join(ROOT, "target", "bin", "fullcheck")]
+def programs():
+    """The program as each of the toolchain's two compilers builds it, where rt ci has left them."""
+    made = [os.path.join(STORED, "out", "fullcheck" + end) for end in ("", ".by-rattle")]
+    return made[:1] + [program for program in made[1:] if os.path.exists(program)]
 
 
 def stored():
@@ -90,11 +83,12 @@ def main():
         return
     runs = 0
     for label, image in inputs():
-        wrote = subprocess.run(command(), input=bytes(image), stdout=subprocess.PIPE, check=True).stdout
         wanted = second.fullcheck_program(bytes(image))
-        if wrote != wanted:
-            sys.exit(f"{label}: the program wrote {wrote}, and the second program {wanted}")
-        runs += 1
+        for program in programs():
+            wrote = subprocess.run([program], input=bytes(image), stdout=subprocess.PIPE, check=True).stdout
+            if wrote != wanted:
+                sys.exit(f"{label}: {os.path.basename(program)} wrote {wrote}, and the second program {wanted}")
+            runs += 1
     print(f"{runs} runs of fullcheck, and its stored run, agree with the second program")
 
 
