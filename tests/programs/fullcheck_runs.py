@@ -5,11 +5,10 @@ usage: fullcheck_runs.py [--write]
 """
 
 import os
-import platform
 import random
-import shutil
 import subprocess
 import sys
+import time
 
 sys.path.append(sys.path[0] + "/../second")
 
@@ -18,6 +17,8 @@ from images import Images, fresh
 
 ROOT = os.path.abspath(os.path.join(os.path.dirname(__file__), "..", ".."))
 STORED = os.path.join(ROOT, "crates", "fullcheck")
+# as `rt run` builds it
+PROGRAM = os.path.join(STORED, "out", "fullcheck")
 BENCH = second.Options(12, 20, 512, 1, 0, 2)
 
 
@@ -60,15 +61,39 @@ def inputs():
         yield f"{length} bytes of two images, one behind the other", (image + image)[:length]
 
 
-def command():
-    """The program is for x86-64; on another processor the toolchain's emulator runs it."""
-    rt = os.path.realpath(shutil.which("rt"))
-    home = os.environ.get("RATTLE_HOME", os.path.dirname(os.path.dirname(rt)))
-    tools = os.path.join(home, "on", platform.machine(), "toolchain")
-    emulator = os.path.join(tools, "bin", "qemu-x86_64")
-    return ([emulator] if os.path.exists(emulator) else []) + [
-        os.path.join(tools, "lib", "ld-linux-x86-64.so.2"), "--library-path", os.path.join(tools, "lib"),
-        os.path.join(ROOT, "target", "bin", "fullcheck")]
+def build():
+    """Proves and builds the program, as `rt run` does, and runs it on its stored input."""
+    with open(os.path.join(STORED, "stdin"), "rb") as file:
+        wrote = subprocess.run(["rt", "run"], cwd=STORED, stdin=file, stdout=subprocess.PIPE, check=True).stdout
+    with open(os.path.join(STORED, "stdout"), "rb") as file:
+        if wrote != file.read():
+            sys.exit(f"the stored run of fullcheck wrote {wrote}")
+
+
+def in_pieces(image):
+    """What the program writes where its input comes through a pipe in pieces, so that a read gives less than there is room for."""
+    with subprocess.Popen([PROGRAM], bufsize=0, stdin=subprocess.PIPE, stdout=subprocess.PIPE) as program:
+        try:
+            for start in range(0, len(image), 10000):
+                program.stdin.write(image[start:start + 10000])
+                time.sleep(0.01)
+        except BrokenPipeError:
+            pass  # it has seen that the input is longer than it holds
+        wrote = program.communicate()[0]
+    if program.returncode != 0:
+        sys.exit(f"in pieces: the program ended with {program.returncode}")
+    return wrote
+
+
+def failing():
+    """Where a read or a write fails, the program says so and ends with 1: it answers nothing."""
+    for label, streams in (
+        ("standard input is a folder", {"stdin": os.open(ROOT, os.O_RDONLY), "stdout": subprocess.PIPE}),
+        ("standard output is full", {"stdin": subprocess.DEVNULL, "stdout": os.open("/dev/full", os.O_WRONLY)}),
+    ):
+        ended = subprocess.run([PROGRAM], stderr=subprocess.PIPE, **streams)
+        if ended.returncode != 1 or ended.stdout or not ended.stderr:
+            sys.exit(f"{label}: the program ended with {ended.returncode} and wrote {ended.stdout}")
 
 
 def stored():
@@ -88,14 +113,18 @@ def main():
                     sys.exit(f"crates/fullcheck/{name} is not what this script makes")
     if sys.argv[1:] == ["--write"]:
         return
+    build()
     runs = 0
     for label, image in inputs():
-        wrote = subprocess.run(command(), input=bytes(image), stdout=subprocess.PIPE, check=True).stdout
-        wanted = second.fullcheck_program(bytes(image))
-        if wrote != wanted:
-            sys.exit(f"{label}: the program wrote {wrote}, and the second program {wanted}")
-        runs += 1
-    print(f"{runs} runs of fullcheck, and its stored run, agree with the second program")
+        image = bytes(image)
+        wanted = second.fullcheck_program(image)
+        whole = subprocess.run([PROGRAM], input=image, stdout=subprocess.PIPE, check=True).stdout
+        for wrote in (whole, in_pieces(image)):
+            if wrote != wanted:
+                sys.exit(f"{label}: the program wrote {wrote}, and the second program {wanted}")
+            runs += 1
+    failing()
+    print(f"{runs} runs of fullcheck, and its stored run, agree with the second program; where a read or a write fails, it ends with 1")
 
 
 if __name__ == "__main__":
