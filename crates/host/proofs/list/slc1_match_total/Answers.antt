@@ -1,0 +1,7 @@
+-- `host::list::slc1_match_total` meets its contract.
+-- Assumes nothing.
+use mathlib.Core.Path.{ap}
+use Rattle.host.proofs.list.slc1_match_total.Goals as goal
+
+pub returns : goal.returns
+returns c = (ap (λ r. r.total) c.match_bits-matched.ensures.0, c.match_bits-matched.ensures.1)

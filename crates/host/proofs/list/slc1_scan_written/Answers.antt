@@ -1,0 +1,7 @@
+-- `host::list::slc1_scan_written` meets its contract.
+-- Assumes nothing.
+use mathlib.Core.Path.{ap}
+use Rattle.host.proofs.list.slc1_scan_written.Goals as goal
+
+pub returns : goal.returns
+returns c = (ap (λ r. r.written) c.scan-listed.ensures.0, c.scan-listed.ensures.1)
