@@ -8,7 +8,6 @@ use Rattle.header.proofs.SizeLaws.{align8_high}
 use Rattle.host.specs.Places.{index_place}
 use Rattle.host.proofs.PlaceLaws.{sizes, place_refused, place_beyond, place_fits, place_inside}
 use Rattle.host.proofs.sizes.slc1_index_offset.Goals as goal
-use Rattle.host.proofs.sizes.slc1_index_offset.Goals.{After-slot_size}
 
 pub returns-then-options_test-ne-DONE : goal.returns-then-options_test-ne-DONE
 unfolding index_place
@@ -30,10 +29,12 @@ overflow_add-result-2 c =
     omega (arith, place_fits _ _ c.options_test.ensures c.if-options_test-ne-DONE.false _ c.slots_for.ensures c.if-slots_for-slot.false c.slot_size.ensures)
 
 pub overflow_add-result : goal.overflow_add-result
-overflow_add-result c = omega (arith, add-result-2 (goal.at.overflow_add-result c).After-slot_size)
+overflow_add-result c =
+    omega (arith, place_fits _ _ c.options_test.ensures c.if-options_test-ne-DONE.false _ c.slots_for.ensures c.if-slots_for-slot.false c.slot_size.ensures)
 
 pub overflow_mul-result : goal.overflow_mul-result
-overflow_mul-result c = omega (arith, add-result-2 (goal.at.overflow_mul-result c).After-slot_size)
+overflow_mul-result c =
+    omega (arith, place_fits _ _ c.options_test.ensures c.if-options_test-ne-DONE.false _ c.slots_for.ensures c.if-slots_for-slot.false c.slot_size.ensures)
 
 pub align8-requires : goal.align8-requires
 align8-requires c =
