@@ -8,6 +8,7 @@ use header::shape::Judged;
 use header::state::HOLDS_THE_LOCK;
 use image::check::full_check;
 use image::lookup::look_up;
+use std::io;
 use writing::create::create;
 use writing::state::begin;
 
@@ -29,33 +30,33 @@ fn small() -> Options {
 }
 
 // Prints what the open check answers of an image.
-fn opened(label: &[u8], image: &[u8]) {
+fn opened(rt: &impl Print, label: &[u8], image: &[u8]) -> io::Result<()> {
     let answer = open_check(image, large()).answer;
-    print::decimal(label, answer as u64);
+    print::decimal(rt, label, u64::from(answer))
 }
 
 // "Length 45,311 is 1; 45,312 opens." And "a length other than the total is 1" (CR 8): create takes a longer buffer, but all
 // of it is no image.
-pub fn lengths() {
+pub fn lengths(rt: &impl Print) -> io::Result<()> {
     let mut buffer = [0u8; 45313];
     create(&mut buffer, large());
-    opened(b"length 45311 answers", &buffer[0..45311]);
-    opened(b"length 45312 answers", &buffer[0..45312]);
-    opened(b"length 45313 answers", &buffer);
+    opened(rt, b"length 45311 answers", &buffer[0..45311])?;
+    opened(rt, b"length 45312 answers", &buffer[0..45312])?;
+    opened(rt, b"length 45313 answers", &buffer)
 }
 
 // Prints what lookup answers of a key in a fresh image.
-fn looked_up(label: &[u8], key: &[u8]) {
+fn looked_up(rt: &impl Print, label: &[u8], key: &[u8]) -> io::Result<()> {
     let mut image = [0u8; 45312];
     create(&mut image, large());
     let answer = look_up(&image, large(), key).answer;
-    print::decimal(label, answer as u64);
+    print::decimal(rt, label, u64::from(answer))
 }
 
 // "Key of 11 bytes where 12 is set: 7."
-pub fn keys() {
-    looked_up(b"a key of 11 bytes answers", b"SENSOR-0001");
-    looked_up(b"a key of 12 bytes answers", b"SENSOR-00012");
+pub fn keys(rt: &impl Print) -> io::Result<()> {
+    looked_up(rt, b"a key of 11 bytes answers", b"SENSOR-0001")?;
+    looked_up(rt, b"a key of 12 bytes answers", b"SENSOR-00012")
 }
 
 // A batch of one record: a put or a delete of a key.
@@ -67,28 +68,28 @@ fn record(meta: u8, key: u8) -> [u8; 24] {
 }
 
 // Commits one record, and prints the tombstones that the full check then counts.
-fn tombstones_after(image: &mut [u8; 456], meta: u8, key: u8) {
+fn tombstones_after(rt: &impl Print, image: &mut [u8; 456], meta: u8, key: u8) -> io::Result<()> {
     let batch = record(meta, key);
     commit_batch(image, small(), &batch);
     let checked = full_check(image, small());
-    print::decimal(b"tombstones", checked.tombstones);
+    print::decimal(rt, b"tombstones", checked.tombstones)
 }
 
 // "B 8: 2 tombstones stay, 3 cause a rebuild."
-pub fn rebuild() {
+pub fn rebuild(rt: &impl Print) -> io::Result<()> {
     let mut image = [0u8; 456];
     create(&mut image, small());
     begin(&mut image, small());
-    tombstones_after(&mut image, 1, b'a');
-    tombstones_after(&mut image, 1, b'b');
-    tombstones_after(&mut image, 1, b'c');
-    tombstones_after(&mut image, 0, b'a');
-    tombstones_after(&mut image, 0, b'b');
-    tombstones_after(&mut image, 0, b'c');
+    tombstones_after(rt, &mut image, 1, b'a')?;
+    tombstones_after(rt, &mut image, 1, b'b')?;
+    tombstones_after(rt, &mut image, 1, b'c')?;
+    tombstones_after(rt, &mut image, 0, b'a')?;
+    tombstones_after(rt, &mut image, 0, b'b')?;
+    tombstones_after(rt, &mut image, 0, b'c')
 }
 
 // "Put then delete of a new key in one batch takes no slot."
-pub fn no_slot() {
+pub fn no_slot(rt: &impl Print) -> io::Result<()> {
     let mut image = [0u8; 456];
     create(&mut image, small());
     begin(&mut image, small());
@@ -97,9 +98,9 @@ pub fn no_slot() {
     batch[8] = b'a';
     batch[32] = b'a';
     let answer = commit_batch(&mut image, small(), &batch);
-    print::decimal(b"put then delete answers", answer as u64);
+    print::decimal(rt, b"put then delete answers", u64::from(answer))?;
     match judge(&image, small()) {
-        Judged::Fit(s) => print::decimal(b"slots taken", s.slot_highwater as u64),
-        Judged::Refused(number) => print::decimal(b"refused", number as u64),
+        Judged::Fit(s) => print::decimal(rt, b"slots taken", s.slot_highwater as u64),
+        Judged::Refused(number) => print::decimal(rt, b"refused", u64::from(number)),
     }
 }

@@ -1,13 +1,15 @@
 // Runs the full check on the image that it reads from standard input, and prints its four numbers.
 #![tactic(auto)]
-ghost use Rattle.std.specs.Prelude.{◌≡◌};
+
+ghost use Rattle.std.specs.Prelude.{◌≡◌, ◌≤◌, length, IfOk};
 ghost use Rattle.fullcheck.specs.Program.{program_of};
 
 use header::answer::INVALID_INPUT;
 use header::options::bench;
 use header::state::NO_WRITER_KNOWN;
 use image::check::{Checked, full_check};
-use libc::{STDIN_FILENO, STDOUT_FILENO};
+use std::io;
+use std::io::Read;
 
 // The full check of the image; 7 where the input was longer than the program holds.
 fn checked(image: &[u8], longer: bool) -> Checked
@@ -24,21 +26,37 @@ fn checked(image: &[u8], longer: bool) -> Checked
     full_check(image, bench(NO_WRITER_KNOWN))
 }
 
-// Writes a word and a number.
-fn print(word: &[u8], n: u64) {
-    io::write_all(STDOUT_FILENO, word);
-    io::print_decimal(STDOUT_FILENO, n);
+// Reads until the buffer is full or the input ends, and returns how many bytes it put at the buffer's start.
+fn read_full(input: &mut impl Read, buffer: &mut [u8]) -> io::Result<usize>
+    ensures { IfOk result (λ n. n ≤ length buffer.new) }
+{
+    let mut done = 0;
+    while done < buffer.len() {
+        let n = input.read(&mut buffer[done..])?;
+        if n == 0 {
+            break;
+        }
+        done += n;
+    }
+    Ok(done)
 }
 
-fn main() {
+// Writes a word and a number.
+fn print(rt: &impl Print, word: &[u8], n: u64) -> io::Result<()> {
+    rt.write_all(word)?;
+    rt.print(n)
+}
+
+fn main(rt: HostRuntime) -> io::Result<()> {
+    let mut input = rt.stdin();
     let mut image = [0u8; 65536];
-    let length = io::read_full(STDIN_FILENO, &mut image);
+    let length = read_full(&mut input, &mut image)?;
     let mut more = [0u8; 1];
-    let longer = 0 < io::read_full(STDIN_FILENO, &mut more);
+    let longer = 0 < read_full(&mut input, &mut more)?;
     let result = checked(&image[..length], longer);
-    print(b"answer ", result.answer as u64);
-    print(b" live ", result.live);
-    print(b" tombstones ", result.tombstones);
-    print(b" probes ", result.probes);
-    io::write_all(STDOUT_FILENO, b"\n");
+    print(&rt, b"answer ", u64::from(result.answer))?;
+    print(&rt, b" live ", result.live)?;
+    print(&rt, b" tombstones ", result.tombstones)?;
+    print(&rt, b" probes ", result.probes)?;
+    rt.write_all(b"\n")
 }
