@@ -1,6 +1,6 @@
 """Runs the program fullcheck on images of the bench's shape, and compares what it prints with the second program.
 
-usage: fullcheck_runs.py [--write]     after `rt ci`, which builds the program
+usage: fullcheck_runs.py [--write]     after `rt ci`, which builds the program; where it is not built, `rt run` builds it
   The stored run, crates/fullcheck/stdin and stdout, is made again and compared as well; --write writes it and runs nothing.
 """
 
@@ -8,6 +8,7 @@ import os
 import random
 import subprocess
 import sys
+import time
 
 sys.path.append(sys.path[0] + "/../second")
 
@@ -61,7 +62,37 @@ def inputs():
 def programs():
     """The program as each of the toolchain's two compilers builds it, where rt ci has left them."""
     made = [os.path.join(STORED, "out", "fullcheck" + end) for end in ("", ".by-rattle")]
+    if not os.path.exists(made[0]):
+        with open(os.path.join(STORED, "stdin"), "rb") as file:
+            subprocess.run(["rt", "run"], cwd=STORED, stdin=file, stdout=subprocess.DEVNULL, check=True)
     return made[:1] + [program for program in made[1:] if os.path.exists(program)]
+
+
+def in_pieces(program, image):
+    """What a program writes where its input comes through a pipe in pieces, so that a read gives less than there is room for."""
+    with subprocess.Popen([program], bufsize=0, stdin=subprocess.PIPE, stdout=subprocess.PIPE) as running:
+        try:
+            for start in range(0, len(image), 10000):
+                running.stdin.write(image[start:start + 10000])
+                time.sleep(0.01)
+        except BrokenPipeError:
+            pass  # it has seen that the input is longer than it holds
+        wrote = running.communicate()[0]
+    if running.returncode != 0:
+        sys.exit(f"in pieces: {os.path.basename(program)} ended with {running.returncode}")
+    return wrote
+
+
+def failing(program):
+    """Where a read or a write fails, the program says so and ends with 1: it answers nothing."""
+    folder, full = os.open(ROOT, os.O_RDONLY), os.open("/dev/full", os.O_WRONLY)
+    for label, streams in (
+        ("standard input is a folder", {"stdin": folder, "stdout": subprocess.PIPE}),
+        ("standard output is full", {"stdin": subprocess.DEVNULL, "stdout": full}),
+    ):
+        ended = subprocess.run([program], stderr=subprocess.PIPE, **streams)
+        if ended.returncode != 1 or ended.stdout or not ended.stderr:
+            sys.exit(f"{label}: {os.path.basename(program)} ended with {ended.returncode} and wrote {ended.stdout}")
 
 
 def stored():
@@ -81,15 +112,19 @@ def main():
                     sys.exit(f"crates/fullcheck/{name} is not what this script makes")
     if sys.argv[1:] == ["--write"]:
         return
-    runs = 0
+    runs, built = 0, programs()
     for label, image in inputs():
-        wanted = second.fullcheck_program(bytes(image))
-        for program in programs():
-            wrote = subprocess.run([program], input=bytes(image), stdout=subprocess.PIPE, check=True).stdout
-            if wrote != wanted:
-                sys.exit(f"{label}: {os.path.basename(program)} wrote {wrote}, and the second program {wanted}")
-            runs += 1
-    print(f"{runs} runs of fullcheck, and its stored run, agree with the second program")
+        image = bytes(image)
+        wanted = second.fullcheck_program(image)
+        for program in built:
+            whole = subprocess.run([program], input=image, stdout=subprocess.PIPE, check=True).stdout
+            for wrote in (whole, in_pieces(program, image)):
+                if wrote != wanted:
+                    sys.exit(f"{label}: {os.path.basename(program)} wrote {wrote}, and the second program {wanted}")
+                runs += 1
+    for program in built:
+        failing(program)
+    print(f"{runs} runs of fullcheck, and its stored run, agree with the second program; where a read or a write fails, it ends with 1")
 
 
 if __name__ == "__main__":
