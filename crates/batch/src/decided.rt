@@ -15,6 +15,7 @@ use numbers::parts::same_bytes;
 const INDEX_SIZE: usize = 2 * MOST_RECORDS;
 
 // The hash of each record's key.
+#[inline(never)]
 pub fn hash_keys(batch: &[u8], l: Layout) -> [u64; MOST_RECORDS]
     requires slot_sized { SlotSized l }
     requires batch_bound { record_count l batch.now ≤ most_records }
@@ -86,6 +87,7 @@ fn enter(batch: &[u8], l: Layout, hashes: &[u64], index: &mut [u16], i: usize) -
 }
 
 // For each record 1 if it decides, else 0.
+#[inline(never)]
 pub fn flag_deciding(batch: &[u8], l: Layout, hashes: &[u64]) -> [u8; MOST_RECORDS]
     requires slot_sized { SlotSized l }
     requires noted { Noted (hash_of l batch.now) (record_count l batch.now) hashes.now }

@@ -1,11 +1,14 @@
 // Commit.
-ghost use Rattle.std.specs.Prelude.{◌+◌, ◌^◌, ◌<◌};
+ghost use Rattle.std.specs.Prelude.{◌≡◌, ◌+◌, ◌^◌, ◌<◌};
 ghost use Rattle.header.specs.Fields.{value, generation};
 ghost use Rattle.header.specs.FirstOf.{first_of};
 ghost use Rattle.header.specs.Shaped.{Shaped};
 ghost use Rattle.writing.specs.Write.{Leaves, unless};
 ghost use Rattle.soundness.specs.Apply.{committed};
-ghost use Rattle.soundness.specs.Commit.{further_tests, commit_of};
+ghost use Rattle.soundness.specs.Commit.{further_tests, commit_of, sound_tests};
+ghost use Rattle.header.specs.Answer.{done};
+ghost use Rattle.batch.specs.Batch.{record_count};
+ghost use Rattle.batch.specs.Notes.{Noted, hash_of};
 
 use crate::further::{room_test, sound_test};
 use crate::turns::take_turns;
@@ -18,6 +21,46 @@ use header::options::Options;
 use header::shape::{Judged, Shape};
 use writing::judge::judge_change;
 
+// Makes the room test and, where it does not refuse the batch, acts; the sound tests refused nothing.
+#[inline(never)]
+fn commit_hashed(image: &mut [u8], s: Shape, batch: &[u8], hashes: &[u64]) -> u32
+    requires shaped { Shaped s image.old }
+    requires generation_bound { value image.old generation + 2 < 2 ^ 64 }
+    requires sound { first_of (sound_tests s image.old batch.now) ≡ done }
+    requires noted { Noted (hash_of s.layout batch.now) (record_count s.layout batch.now) hashes.now }
+    ensures { Leaves (unless (first_of (further_tests s image.old batch.now)) image.old (committed s image.old batch.now)) result image.new }
+{
+    let mut places: [u32; MOST_RECORDS] = [0; MOST_RECORDS];
+    let turns = take_turns(image, s, batch, hashes, &mut places);
+    let order = order_new_keys(batch, s.layout, &turns);
+    let room = room_test(image, s, batch, &order.records, order.count);
+    if room != DONE {
+        return room;
+    }
+    apply(
+        image,
+        s,
+        batch,
+        hashes,
+        &turns,
+        &places,
+        &order.records,
+        order.count,
+    );
+    DONE
+}
+
+// The same, with the hash of each record's key, which stands on the stack once: it is lent, and not moved.
+#[inline(never)]
+fn commit_sound(image: &mut [u8], s: Shape, batch: &[u8]) -> u32
+    requires shaped { Shaped s image.old }
+    requires generation_bound { value image.old generation + 2 < 2 ^ 64 }
+    requires sound { first_of (sound_tests s image.old batch.now) ≡ done }
+    ensures { Leaves (unless (first_of (further_tests s image.old batch.now)) image.old (committed s image.old batch.now)) result image.new }
+{
+    commit_hashed(image, s, batch, &hash_keys(batch, s.layout))
+}
+
 // Makes the further tests and, where none refuses the batch, acts. Any answer but 0 leaves every byte alone.
 fn commit_in(image: &mut [u8], s: Shape, batch: &[u8]) -> u32
     requires shaped { Shaped s image.old }
@@ -28,26 +71,7 @@ fn commit_in(image: &mut [u8], s: Shape, batch: &[u8]) -> u32
     if sound != DONE {
         return sound;
     }
-    let hashes = hash_keys(batch, s.layout);
-    let mut places: [u32; MOST_RECORDS] = [0; MOST_RECORDS];
-    let turns = take_turns(image, s, batch, &hashes, &mut places);
-    let order = order_new_keys(batch, s.layout, &turns);
-    let records = order.records;
-    let room = room_test(image, s, batch, &records, order.count);
-    if room != DONE {
-        return room;
-    }
-    apply(
-        image,
-        s,
-        batch,
-        &hashes,
-        &turns,
-        &places,
-        &records,
-        order.count,
-    );
-    DONE
+    commit_sound(image, s, batch)
 }
 
 // Commits a batch to a DIRTY image. Any answer but 0 leaves every byte alone.

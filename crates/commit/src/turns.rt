@@ -79,6 +79,7 @@ fn turn_of(
 }
 
 // For each record its turn; the bucket noted for it goes into places, which are all zero before.
+#[inline(never)]
 pub fn take_turns(
     image: &[u8],
     s: Shape,
