@@ -1,6 +1,6 @@
 """Runs the program fullcheck on images of the bench's shape, and compares what it prints with the second program.
 
-usage: fullcheck_runs.py [--write]
+usage: fullcheck_runs.py [--write]     after `rt ci`, which builds the program; where it is not built, `rt run` builds it
   The stored run, crates/fullcheck/stdin and stdout, is made again and compared as well; --write writes it and runs nothing.
 """
 
@@ -17,8 +17,6 @@ from images import Images, fresh
 
 ROOT = os.path.abspath(os.path.join(os.path.dirname(__file__), "..", ".."))
 STORED = os.path.join(ROOT, "crates", "fullcheck")
-# as `rt run` builds it
-PROGRAM = os.path.join(STORED, "out", "fullcheck")
 BENCH = second.Options(12, 20, 512, 1, 0, 2)
 
 
@@ -61,39 +59,40 @@ def inputs():
         yield f"{length} bytes of two images, one behind the other", (image + image)[:length]
 
 
-def build():
-    """Proves and builds the program, as `rt run` does, and runs it on its stored input."""
-    with open(os.path.join(STORED, "stdin"), "rb") as file:
-        wrote = subprocess.run(["rt", "run"], cwd=STORED, stdin=file, stdout=subprocess.PIPE, check=True).stdout
-    with open(os.path.join(STORED, "stdout"), "rb") as file:
-        if wrote != file.read():
-            sys.exit(f"the stored run of fullcheck wrote {wrote}")
+def programs():
+    """The program as each of the toolchain's two compilers builds it, where rt ci has left them."""
+    made = [os.path.join(STORED, "out", "fullcheck" + end) for end in ("", ".by-rattle")]
+    if not os.path.exists(made[0]):
+        with open(os.path.join(STORED, "stdin"), "rb") as file:
+            subprocess.run(["rt", "run"], cwd=STORED, stdin=file, stdout=subprocess.DEVNULL, check=True)
+    return made[:1] + [program for program in made[1:] if os.path.exists(program)]
 
 
-def in_pieces(image):
-    """What the program writes where its input comes through a pipe in pieces, so that a read gives less than there is room for."""
-    with subprocess.Popen([PROGRAM], bufsize=0, stdin=subprocess.PIPE, stdout=subprocess.PIPE) as program:
+def in_pieces(program, image):
+    """What a program writes where its input comes through a pipe in pieces, so that a read gives less than there is room for."""
+    with subprocess.Popen([program], bufsize=0, stdin=subprocess.PIPE, stdout=subprocess.PIPE) as running:
         try:
             for start in range(0, len(image), 10000):
-                program.stdin.write(image[start:start + 10000])
+                running.stdin.write(image[start:start + 10000])
                 time.sleep(0.01)
         except BrokenPipeError:
             pass  # it has seen that the input is longer than it holds
-        wrote = program.communicate()[0]
-    if program.returncode != 0:
-        sys.exit(f"in pieces: the program ended with {program.returncode}")
+        wrote = running.communicate()[0]
+    if running.returncode != 0:
+        sys.exit(f"in pieces: {os.path.basename(program)} ended with {running.returncode}")
     return wrote
 
 
-def failing():
+def failing(program):
     """Where a read or a write fails, the program says so and ends with 1: it answers nothing."""
+    folder, full = os.open(ROOT, os.O_RDONLY), os.open("/dev/full", os.O_WRONLY)
     for label, streams in (
-        ("standard input is a folder", {"stdin": os.open(ROOT, os.O_RDONLY), "stdout": subprocess.PIPE}),
-        ("standard output is full", {"stdin": subprocess.DEVNULL, "stdout": os.open("/dev/full", os.O_WRONLY)}),
+        ("standard input is a folder", {"stdin": folder, "stdout": subprocess.PIPE}),
+        ("standard output is full", {"stdin": subprocess.DEVNULL, "stdout": full}),
     ):
-        ended = subprocess.run([PROGRAM], stderr=subprocess.PIPE, **streams)
+        ended = subprocess.run([program], stderr=subprocess.PIPE, **streams)
         if ended.returncode != 1 or ended.stdout or not ended.stderr:
-            sys.exit(f"{label}: the program ended with {ended.returncode} and wrote {ended.stdout}")
+            sys.exit(f"{label}: {os.path.basename(program)} ended with {ended.returncode} and wrote {ended.stdout}")
 
 
 def stored():
@@ -113,17 +112,18 @@ def main():
                     sys.exit(f"crates/fullcheck/{name} is not what this script makes")
     if sys.argv[1:] == ["--write"]:
         return
-    build()
-    runs = 0
+    runs, built = 0, programs()
     for label, image in inputs():
         image = bytes(image)
         wanted = second.fullcheck_program(image)
-        whole = subprocess.run([PROGRAM], input=image, stdout=subprocess.PIPE, check=True).stdout
-        for wrote in (whole, in_pieces(image)):
-            if wrote != wanted:
-                sys.exit(f"{label}: the program wrote {wrote}, and the second program {wanted}")
-            runs += 1
-    failing()
+        for program in built:
+            whole = subprocess.run([program], input=image, stdout=subprocess.PIPE, check=True).stdout
+            for wrote in (whole, in_pieces(program, image)):
+                if wrote != wanted:
+                    sys.exit(f"{label}: {os.path.basename(program)} wrote {wrote}, and the second program {wanted}")
+                runs += 1
+    for program in built:
+        failing(program)
     print(f"{runs} runs of fullcheck, and its stored run, agree with the second program; where a read or a write fails, it ends with 1")
 
 

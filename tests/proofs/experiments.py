@@ -1,18 +1,15 @@
 """The experiments of docs/audit.md: each edits a copy of the crates, and the prover must refuse it at the place named here.
 
-usage: experiments.py [NAME ...]     after `rt check` or `rt ci`, so that only what an edit touches is proved again
+usage: experiments.py [NAME ...]     after `rt check` in each crate, so that only what an edit touches is proved again
 """
 
-import os
 import re
-import shutil
-import subprocess
 import sys
 import tempfile
 from collections import namedtuple
 from concurrent.futures import ThreadPoolExecutor
 
-from wrong_programs import ROOT
+from room import Room
 
 # edits: (file below crates/, old text, new text), the old text standing there once or more; crate: the first that is not
 # proved; at and says: the declaration that is refused there, and words of the refusal
@@ -22,12 +19,12 @@ EXPERIMENTS = {
     # the place that a host is given for the index, in definition, code and proof, moved onto the revision
     "index_on_the_revision": Experiment(
         [
-            ("host/specs/Places.antt", "keyStart, indexStart}", "keyStart, revisionStart}"),
-            ("host/specs/Places.antt", "placeIn o slot (indexStart", "placeIn o slot (revisionStart"),
+            ("host/specs/Places.antt", "key_start, index_start}", "key_start, revision_start}"),
+            ("host/specs/Places.antt", "place_in o slot (index_start", "place_in o slot (revision_start"),
             ("host/src/sizes.rt", "+ 16 + align8(key_size)", "+ 8 + align8(key_size)"),
-            ("host/proofs/sizes/slc1_index_offset/Proof.antt", "+ 16 + key", "+ 8 + key"),
+            ("host/proofs/sizes/slc1_index_offset/Answers.antt", "+ 16 + key", "+ 8 + key"),
         ],
-        "demands", "index-placed", "`16` (expected) and the other has `8` (found)",
+        "demands", "index_placed", "`16` (expected) and the other has `8` (found)",
     ),
     # a lookup that takes a serial which was cut
     "cut_serial": Experiment(
@@ -44,41 +41,29 @@ EXPERIMENTS = {
         [
             ("listing/specs/Scan.antt", "(λ key. true)) skip limit numbers)", "(λ key. true)) 0 limit numbers)"),
             ("listing/src/scan.rt", "&image[0..0], skip, limit", "&image[0..0], 0, limit"),
-            ("listing/proofs/scan/scan/Proof.antt", "(λ key. true)) (a .skip)", "(λ key. true)) 0"),
+            ("listing/proofs/scan/scan/Answers.antt", "(λ key. true)) a.skip", "(λ key. true)) 0"),
         ],
-        "demands", "scan-list", "`skip` (expected) and the other has `0` (found)",
+        "demands", "scan_list", "`skip` (expected) and the other has `0` (found)",
     ),
     # an overflow that counts a stretch as one bucket shorter than it is
     "overflow_of_one_bucket_less": Experiment(
         [("probing/specs/Overflow.antt", "(stretch B h b (suc n) - suc n)", "(stretch B h b (suc n) - n)")],
-        "probing", "largest-le", "the goal does not follow from what it read",
+        "probing", "largest_le", "the goal does not follow from what it read",
     ),
 }
 
 
-def edited_copy(edits, room):
-    """The crates with the edits made, beside what is proved of those that they leave alone."""
-    shutil.copytree(os.path.join(ROOT, "crates"), os.path.join(room, "crates"))
-    shutil.copy(os.path.join(ROOT, "crates.txt"), room)
-    for part in ("rlib", "stamp"):
-        shutil.copytree(os.path.join(ROOT, "target", part), os.path.join(room, "target", part))
-    for file, old, new in edits:
-        path = os.path.join(room, "crates", file)
-        with open(path) as text:
-            before = text.read()
-        if old not in before:
-            sys.exit(f"{file} has no '{old}'")
-        with open(path, "w") as text:
-            text.write(before.replace(old, new))
-
-
 def answer(experiment):
     """The crates that are not proved, and what the prover says of the declaration, by its first error there."""
-    with tempfile.TemporaryDirectory() as room:
-        edited_copy(experiment.edits, room)
-        run = subprocess.run(["rt", "check", experiment.crate], cwd=room, capture_output=True, text=True, env={**os.environ, "RT_CUT": "0"})
-    said = run.stdout + run.stderr
-    refused = re.findall(r"^rt: (\w+) NOT PROVED", said, re.M)
+    with tempfile.TemporaryDirectory(prefix="slc1-experiment-") as folder:
+        room = Room(folder, experiment.crate)
+        for file, old, new in experiment.edits:
+            if not room.change(file, old, new, once=False):
+                sys.exit(f"{file} has no '{old}'")
+        said, status = room.check()
+    refused = re.findall(r"^rt: the library (\w+) did not build", said, re.M)
+    if not refused and status == 1 and re.search(r"^logic=not-proved", said, re.M):
+        refused = [experiment.crate]
     error = re.search(rf"error: `{re.escape(experiment.at)}`: (.*(?:\n  .*)*)", said)
     return refused, error.group(1) if error else ""
 

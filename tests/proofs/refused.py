@@ -1,78 +1,143 @@
-"""After `rt ci`: every wrong program of crates/*/must-fail is refused where it is wrong, and because a fact fails there: numbers
-at which it does not hold, or two terms that differ. A rewrite that finds nothing, a tactic that gives up, or a proof that lost
-its shape shows nothing. Every call of slc1.h is refused so under two wrong programs or more.
+"""Every wrong program of crates/*/must-fail is refused where it is wrong, and because a fact fails there: numbers at which it does not
+hold, or two terms that differ. A rewrite that finds nothing, a tactic that gives up, or a proof that lost its shape shows nothing, nor
+does a proof that names what the wrong program took away: such an edit has to name it anew in the proof. Those of a file are tried in
+one copy of the crate; one that is not shown there, as what it rests on is wrong too, is tried by itself. Every call of slc1.h is
+refused so under two wrong programs or more.
 
-usage: refused.py [CRATE ...]     of some crates, after `rt must-fail CRATE ...`
+usage: refused.py [--say] [CRATE ...]     after `rt check` in each crate, so that only what is wrong is proved again
+  --say prints, of each that is not refused so, all that the prover says against it
 """
 
 import collections
-import os
+import itertools
 import re
 import sys
+import tempfile
+from concurrent.futures import ThreadPoolExecutor
 
-from wrong_programs import ROOT, calls, wrong_programs
+from room import Room
+from wrong_programs import calls, wrong_programs
 
-# a refusal that shows a fact which fails, as the prover words it: omega's numbers, or where two terms differ
+WORKERS = 3
+# a refusal that shows a fact which fails, as the prover words it: omega's numbers, where two terms differ, or what computes to false
 FACT = re.compile(
     r"the goal does not follow from what it read"
     r"|computed as far as they go, the two (types|sides|values) (are|differ only|first differ)"
-    r"|as printed, the two (types|sides|values) differ only"
-    r"|on the face `i = 1` this λ's body is")
+    r"|as printed, the two (types|sides|values) (differ only|first differ)"
+    r"|on the face `i = 1` this λ's body is"
+    r"|expected type `⊥`, but this has type")
 # a refusal that shows nothing, whatever else it says: a proof that lost its shape, or a prover that met a bound of its own
 NOTHING = re.compile(
     r"no occurrence of the path's|no part of the goal|list the missing equation|broke off|stopped at"
-    r"|could not be computed|took more than|are identical"
-    r"|Need-|is not in scope(?! here, so what is shown)|that can be named from here|no field")
+    r"|could not be computed|took more than|are identical")
+# a proof that names what is no longer there. The names of goals and of what is known there go by the code's own words
+GONE = re.compile(r"is not in scope(?! here, so what is shown)|that can be named from here|has no field")
 
 ERROR = re.compile(r"^(\S+?):\d+:\d+: error: `([^`]+)`: (.*(?:\n  .*)*)", re.M)
-# of a function without a proof file: what the prover's own search said, and the function's verdict behind it
-SEARCH = re.compile(r"^note: what antt said of a `search` in the proof that rattle made: (.*(?:\n  .*)*)|^fn \w+::(\S+): (.*)$", re.M)
+# what the search said of the goals that no proof file answers, and the function's verdict behind it
+GOAL = re.compile(r"^note: (src/\S+:\d+:\d+: it is not proved that .*)|^fn \w+::(\S+): (.*)$", re.M)
+FALSE = "the facts known there allow values at which this goal is false"
 
 
-def log_of(wrong):
-    with open(os.path.join(ROOT, "target", "must-fail", wrong.crate, wrong.edit, ".log")) as log:
-        return log.read()
-
-
-def errors(wrong, log):
-    """What the prover says against a wrong program, but for what only follows from something else."""
-    folder = f"/{wrong.edit}/proofs/{wrong.where.replace('::', '/')}/"
-    for path, declaration, message in ERROR.findall(log):
-        mine = folder in path if wrong.kind == "in" else declaration == wrong.where
+def errors(wrong, said):
+    """What the prover says against a wrong program in proof files, but for what only follows from something else."""
+    folder = f"proofs/{wrong.where.replace('::', '/')}/"
+    for path, declaration, message in ERROR.findall(said):
+        mine = path.removeprefix("./").startswith(folder) if wrong.kind == "in" else declaration == wrong.where
         if mine and "was not admitted" not in message:
             yield message
+
+
+def goals(wrong, said):
+    """What the search says of a wrong function's other goals."""
     notes = []
-    for note, function, verdict in SEARCH.findall(log):
+    for note, function, verdict in GOAL.findall(said):
         if note:
             notes.append(note)
         else:
-            if wrong.kind == "in" and function == wrong.where and verdict.startswith("no proof"):
+            if wrong.kind == "in" and function == wrong.where and verdict.startswith(("no proof", "not proved")):
                 yield from notes
             notes = []
 
 
-def complaint(wrong):
-    first = next(errors(wrong, log_of(wrong)), None)
-    if first is None:
-        return "is not refused there: if what that rests on is wrong in this file too, it belongs in another"
-    if NOTHING.search(first.split("was found. Every way was tried")[0]) or not FACT.search(first):
-        return "is refused, and not because a fact fails: " + first[:300]
+def judged(wrong, said):
+    """Why what is said does not show that the wrong program is refused where it is wrong, because a fact fails there; or nothing."""
+    against = list(errors(wrong, said))
+    there = [message for message in against if not GONE.search(message)]
+    if any(FALSE in note for note in goals(wrong, said)):
+        return None
+    if there:
+        shown = not NOTHING.search(there[0].split("was found. Every way was tried")[0]) and FACT.search(there[0])
+        return None if shown else "is refused, and not because a fact fails: " + there[0][:300]
+    if against:
+        return "is refused only since the proof names what it took away: " + against[0][:300]
+    left = list(goals(wrong, said))
+    return "is refused, and no fact is shown: " + left[0][:300] if left else "is not refused there"
+
+
+def change(room, programs):
+    """Makes the edits of wrong programs, and says of one that cannot be made."""
+    made = []
+    for wrong in programs:
+        if wrong.edits not in made:
+            made.append(wrong.edits)
+            for file, old, new in wrong.edits:
+                if not room.change(f"{wrong.crate}/{file}", old, new):
+                    return f"is no edit of the crate as it is: '{old}' does not stand once in {file}"
     return None
 
 
-programs = [wrong for wrong in wrong_programs() if not sys.argv[1:] or wrong.crate in sys.argv[1:]]
-found = 0
-for wrong in programs:
-    said = complaint(wrong)
-    if said:
-        print(f"{wrong.crate}/{wrong.edit}: {wrong.name} {wrong.kind} {wrong.where} {said}")
-        found += 1
-tried = collections.Counter(wrong.where.split("::")[-1] for wrong in programs if wrong.crate == "host")
-for call in sorted(calls()) if tried else []:
-    if tried[call] < 2:
-        print(f"{call} has {tried[call]} wrong programs in crates/host/must-fail")
-        found += 1
-if found:
-    sys.exit(1)
-names = len({wrong.name for wrong in programs})
-print(f"{names} wrong programs, tried in {len(programs)} places, are refused because a fact fails")
+def tried(room, programs, *words):
+    """What `rt check` of the crate with these wrong programs says, or why it says nothing."""
+    why = change(room, programs)
+    said, status = room.check("--jobs", "1", *words) if not why else ("", 1)
+    room.restore()
+    return said, why or (None if status == 1 else f"is not judged: rt check ended with status {status}: {said[-300:]}")
+
+
+def complaint(room, wrong):
+    # a function is proved by what the others promise; a law may rest on anything
+    alone = wrong.kind == "in" and all(file.startswith(("src/", "proofs/")) for file, _, _ in wrong.edits)
+    said, why = tried(room, [wrong], *(["--only", f"{wrong.crate}::{wrong.where}"] if alone else []))
+    return why or judged(wrong, said), said
+
+
+def complaints(folder, programs):
+    """Of the wrong programs of one edit file."""
+    room = Room(tempfile.mkdtemp(dir=folder), programs[0].crate)
+    said, why = tried(room, programs)
+    for wrong in programs:
+        if why or judged(wrong, said):
+            yield wrong, *complaint(room, wrong)
+
+
+def by_file(programs):
+    return [list(group) for _, group in itertools.groupby(programs, lambda wrong: (wrong.crate, wrong.edit))]
+
+
+def main():
+    say = "--say" in sys.argv[1:]
+    chosen = [word for word in sys.argv[1:] if word != "--say"]
+    programs = [wrong for wrong in wrong_programs() if not chosen or wrong.crate in chosen]
+    found = 0
+    with tempfile.TemporaryDirectory(prefix="slc1-refused-") as folder, ThreadPoolExecutor(WORKERS) as pool:
+        for told in pool.map(lambda share: list(complaints(folder, share)), by_file(programs)):
+            for wrong, why, said in told:
+                if why:
+                    print(f"{wrong.crate}/{wrong.edit}: {wrong.name} {wrong.kind} {wrong.where} {why}", flush=True)
+                    found += 1
+                    if say:
+                        print(said, flush=True)
+    against = collections.Counter(wrong.where.split("::")[-1] for wrong in programs if wrong.crate == "host")
+    for call in sorted(calls()) if against else []:
+        if against[call] < 2:
+            print(f"{call} has {against[call]} wrong programs in crates/host/must-fail")
+            found += 1
+    if found:
+        sys.exit(1)
+    names = len({wrong.name for wrong in programs})
+    print(f"{names} wrong programs, tried in {len(programs)} places, are refused because a fact fails")
+
+
+if __name__ == "__main__":
+    main()

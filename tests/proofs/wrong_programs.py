@@ -11,7 +11,8 @@ from collections import namedtuple
 
 ROOT = os.path.abspath(os.path.join(os.path.dirname(__file__), "..", ".."))
 
-Wrong = namedtuple("Wrong", "crate edit name kind where")
+# edits: (file, old text, new text), in this order
+Wrong = namedtuple("Wrong", "crate edit name kind where edits")
 
 
 def in_header(pattern):
@@ -34,11 +35,25 @@ def crates():
 
 
 def wrong_programs():
+    """In the order of the files. Lines that stand together share the edits behind them."""
     for crate in crates():
         folder = os.path.join(ROOT, "crates", crate, "must-fail")
-        for file in sorted(os.listdir(folder)) if os.path.isdir(folder) else []:
-            with open(os.path.join(folder, file)) as lines:
-                for line in lines:
-                    if line.startswith("wrong: "):
-                        name, kind, where = line.split()[1:]
-                        yield Wrong(crate, file.removesuffix(".edit"), name, kind, where)
+        for name in sorted(os.listdir(folder)) if os.path.isdir(folder) else []:
+            with open(os.path.join(folder, name)) as lines:
+                yield from wrong_programs_of(crate, name.removesuffix(".edit"), lines.read().split("\n"))
+
+
+def wrong_programs_of(crate, edit, lines):
+    heads, edits, file, old = [], [], None, None
+    for line in [*lines, "wrong: "]:
+        if line.startswith("wrong: "):
+            if edits or line == "wrong: ":
+                yield from (Wrong(crate, edit, *head, edits) for head in heads)
+                heads, edits = [], []
+            heads.append(line.split()[1:])
+        elif line.startswith("file: "):
+            file = line.removeprefix("file: ").strip()
+        elif line.startswith("old: "):
+            old = line.removeprefix("old: ")
+        elif line.startswith("new:"):
+            edits.append((file, old, line.removeprefix("new:").removeprefix(" ")))

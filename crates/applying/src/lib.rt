@@ -1,4 +1,5 @@
 // Applying a batch that passed every test.
 #![tactic(auto)]
+
 pub mod apply;
 mod counts;

@@ -1,5 +1,6 @@
 // A batch: its records, which of them decide, and the order of its new keys.
 #![tactic(auto)]
+
 pub mod batch;
 pub mod decided;
 mod heads;

@@ -30,5 +30,5 @@ module _ (o : Options) (buffer : List ℕ) (a : (create_of o buffer).answer ≡ 
   unfolding create_of
   create_left = accepted buffer (fresh o ++ drop (total_size o) buffer) (first_of (create_tests o buffer)) none_holds
 
-  pub fresh_in : fresh_in o buffer ≡ fresh o
-  fresh_in = ap (take (total_size o)) create_left ∙ take_at (fresh o) (drop (total_size o) buffer) (total_size o) (fresh_length o)
+  pub fresh_in_lem : fresh_in o buffer ≡ fresh o
+  fresh_in_lem = ap (take (total_size o)) create_left ∙ take_at (fresh o) (drop (total_size o) buffer) (total_size o) (fresh_length o)

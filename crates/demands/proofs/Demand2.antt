@@ -40,7 +40,7 @@ use Rattle.demands.specs.Demand2.{ReadsBack, NoneHolds, Demand2}
 use Rattle.demands.specs.Listings.{RightPattern, Roomy, Lists, Piece}
 use Rattle.demands.specs.Shows.{Shows}
 use Rattle.demands.proofs.Belongs.{belongs}
-use Rattle.demands.proofs.Created.{create_allowed, create_left, fresh_in}
+use Rattle.demands.proofs.Created.{create_allowed, create_left, fresh_in_lem}
 use Rattle.demands.proofs.HistoryInvariant.{Held, writer_header, checkpoint_done, begin_done, held}
 use Rattle.demands.proofs.Patterns.{match_list}
 use Rattle.demands.proofs.Pieces.{pieces}
@@ -146,7 +146,7 @@ module _ (o : Options) (image batch : List ℕ) where
 fresh_is_clean : (o : Options) (buffer : List ℕ) → Word o.user_version → (create_of o buffer).answer ≡ 0 → value (fresh_in o buffer) F.state ≡ CLEAN
 unfolding fresh_fields
 fresh_is_clean o buffer version a =
-    rw (fresh_in o buffer a) (fresh_value o (create_allowed o buffer a) version F.state tt)
+    rw (fresh_in_lem o buffer a) (fresh_value o (create_allowed o buffer a) version F.state tt)
 
 pub demand2 : Demand2
 demand2 =

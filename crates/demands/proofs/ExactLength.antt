@@ -1,6 +1,6 @@
 -- Images of exact length: what passes has the total's, and any other is refused.
 -- Assumes nothing.
-use Prim.Native.Nat.{ℕ, zero, suc, ◌+◌, ◌≤◌, ◌<◌}
+use Prim.Native.Nat.{ℕ, zero, suc, ◌≤◌, ◌<◌}
 use mathlib.Core.Bool.{true, or-true}
 use mathlib.Core.Path.{◌≡◌, refl, sym, ap, ◌∙◌, fun_ext}
 use mathlib.Core.List.{List, [], ◌∷◌, ◌++◌, append_assoc}
@@ -43,7 +43,7 @@ use Rattle.demands.specs.Before.{nine}
 use Rattle.demands.specs.ExactLength.{number, OtherLength, unchanged, ExactLength}
 use Rattle.demands.specs.History.{Word, writer, fresh_in}
 use Rattle.demands.specs.Owes.{written}
-use Rattle.demands.proofs.Created.{create_allowed, create_left, fresh_in}
+use Rattle.demands.proofs.Created.{create_allowed, create_left, fresh_in_lem}
 use Rattle.demands.proofs.Demand1.{demand1}
 use Rattle.demands.proofs.HistoryInvariant.{writer_header, held}
 
@@ -198,7 +198,7 @@ module _ (o : Options) (buffer : List ℕ) (version : Word o.user_version) (a : 
   fresh_opens = let first = create_allowed o buffer a in fresh_header o first version o.role (create_role o first)
 
   lent : header_test o (fresh_in o buffer) ≡ 0
-  lent = rw (fresh_in o buffer a) fresh_opens
+  lent = rw (fresh_in_lem o buffer a) fresh_opens
 
   not_lent : total_size o < length buffer → header_test o (create_of o buffer).image ≡ needs_rebuild
   not_lent longer =

@@ -55,7 +55,7 @@ use Rattle.demands.specs.Demand1.{LeavesAlone}
 use Rattle.demands.specs.ForeignShapes.{with_capacity, capacity_in, buckets_in, Within, PowerOfTwo, Commits, ForeignShapes}
 use Rattle.demands.specs.History.{Word, fresh_in}
 use Rattle.demands.specs.Owes.{written}
-use Rattle.demands.proofs.Created.{create_allowed, fresh_in}
+use Rattle.demands.proofs.Created.{create_allowed, fresh_in_lem}
 use Rattle.demands.proofs.Demand1.{demand1}
 use Rattle.demands.proofs.ReadMap.{read_map}
 
@@ -158,7 +158,7 @@ sizing o buffer version a =
     let z = fresh_header o first version o.role (create_role o first) in
     let total : image_total (fresh o) ≡ total_size o =
     sym (fit_total o (fresh o) (shape_of (fresh o)) (judged_fit o (fresh o) z)) ∙ fresh_length o in
-    rw (fresh_in o buffer a, z, fresh_value o first version F.slot_capacity_field tt, fresh_value o first version F.bucket_count_outcome tt, total) refl
+    rw (fresh_in_lem o buffer a, z, fresh_value o first version F.slot_capacity_field tt, fresh_value o first version F.bucket_count_field tt, total) refl
 
 create_zero : (o : Options) (buffer : List ℕ) → create_of (with_capacity o 0) buffer ≡ written invalid_input buffer
 unfolding create_of create_tests create_test1 sizes_to_create first_of
@@ -251,7 +251,7 @@ foreign_shapes =
       not_told = λ o image refuses. after_failed _ (λ n. no_extent) (header_test o image) refuses;
       any_power = any_power;
       power = power;
-      larger = λ o image bytes none. larger image o none (value_bound image bytes (eight_long o image none) F.bucket_count_outcome);
+      larger = λ o image bytes none. larger image o none (value_bound image bytes (eight_long o image none) F.bucket_count_field);
       any_other = λ o image none. any_other image o none;
       sizing = sizing;
       create_zero = create_zero;

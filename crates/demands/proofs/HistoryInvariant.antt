@@ -47,7 +47,7 @@ use Rattle.maps.proofs.MapLaw.{commit_map}
 use Rattle.soundness.specs.Apply as A
 use Rattle.soundness.specs.Commit.{commit_tests, commit_of}
 use Rattle.demands.specs.History.{Word, writer, Handed, empty_map, read_by, fresh_in, History, created, adopted, begun, checkpointed, marked, marking_refused, committed, commit_refused}
-use Rattle.demands.proofs.Created.{create_allowed, fresh_in}
+use Rattle.demands.proofs.Created.{create_allowed, fresh_in_lem}
 use Rattle.demands.proofs.ReadMap.{read_map}
 
 pub record Held (o : Options) (image : List ℕ) (m : Map) (fields : UserFields) : Type 0 where
@@ -63,7 +63,7 @@ pub held_created : (o : Options) (role : ℕ) (buffer : List ℕ) → Word o.use
 held_created o role buffer version a =
     let o' = with_role o role in
     let first = create_allowed o' buffer a in
-    rw (fresh_in o' buffer a)
+    rw (fresh_in_lem o' buffer a)
     (record {
       bytes = fresh_bytes o';
       dirty = λ r low other. fresh_header o' first version r low;

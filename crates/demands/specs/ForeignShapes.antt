@@ -44,7 +44,7 @@ abbrev pub capacity_in : List ℕ → ℕ
 capacity_in image = value image F.slot_capacity_field
 
 abbrev pub buckets_in : List ℕ → ℕ
-buckets_in image = value image F.bucket_count_outcome
+buckets_in image = value image F.bucket_count_field
 
 -- "within 1 to 1,048,576"
 abbrev pub Within : List ℕ → Type 0

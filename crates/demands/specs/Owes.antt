@@ -2,7 +2,8 @@
 -- Assumes nothing.
 use Rattle.std.specs.Prelude.{ℕ, ◌≡◌, List}
 use base.Logic.{emp}
-use prog.Routine.{Routine}
+use mir.Syntax.{Callee}
+use prog.Wired.{Code, Wired}
 use contract.Monad.{fact}
 use contract.Lifetimes.{Lfts}
 use denote.Triple.Entry.{Args, Res}
@@ -15,9 +16,9 @@ use Rattle.listing.specs.Scan.{Outcome}
 use Rattle.writing.specs.Write.{Written}
 use Rattle.host.specs.Options.{options_of}
 
--- A function is, to the toolchain, its parameters and result (f) and a routine: what the machine does on a call of it, by the
--- code that is compiled. A κ names the lifetimes of what is lent, a are the arguments, x is the result, and e is what is lent
--- at the return.
+-- A function is, to the toolchain, its parameters and result (f), its name, and the code that is compiled, its own and that of
+-- all that it calls. A κ names the lifetimes of what is lent, a are the arguments, x is the result, and e is what is lent at the
+-- return.
 module _ (f : Ended) where
   abbrev pub Lifetimes : Type 0
   Lifetimes = Lfts f.signature.lifetimes
@@ -26,23 +27,24 @@ module _ (f : Ended) where
   Promise = (κ : Lifetimes) → Args f.signature κ → Res f.signature κ → AtExit f κ → Type 0
 
   -- What the toolchain proves of a function (`Meets`), at the contract that asks for nothing and ensures a promise: in every
-  -- world, with any arguments, a call of the routine ends, stays inside what it was lent, and leaves the promise true.
-  abbrev pub Keeps : Routine → Promise → Type 2
-  Keeps routine promise =
-      (w : World)
-      → Meets w.𝓛 f.signature (w.𝓡.run routine)
+  -- world whose program has that code, with any arguments, a call of the name ends, stays inside what it was lent, and leaves
+  -- the promise true.
+  abbrev pub Keeps : Callee → Code → Promise → Type 2
+  Keeps name code promise =
+      (w : World) → Wired w.𝓡.env code
+      → Meets w.𝓛 f.signature (w.𝓡.run (w.𝓡.env name))
       (closing w.𝓛 f
       (λ κ a. record { ghost = Unit {0}; requires = λ g. emp w.𝓤; ensures = λ g x e. fact w.𝓤 (promise κ a x e) }))
 
 -- "Any bytes may be lent ... Every call ends, stays inside what it was lent"; "Each call's result and every lent byte
 -- afterwards follow from its inputs alone, refusals too." `outcome` picks what a caller sees, the result and the lent bytes
--- afterwards, and that is what the definition says of the arguments. The routine and the definition meet in one statement, so
--- the theorem of another function has no place here.
+-- afterwards, and that is what the definition says of the arguments. The function's name and the definition meet in one
+-- statement, so the theorem of another function has no place here.
 pub record Owes
-    {Outcome : Type 0} (f : Ended) (routine : Routine) (outcome : (κ : Lifetimes f) → Res f.signature κ → AtExit f κ → Outcome)
+    {Outcome : Type 0} (f : Ended) (name : Callee) (code : Code) (outcome : (κ : Lifetimes f) → Res f.signature κ → AtExit f κ → Outcome)
     (definition : (κ : Lifetimes f) → Args f.signature κ → Outcome)
     : Type 2 where
-  pub met : Keeps f routine (λ κ a x e. outcome κ x e ≡ definition κ a)
+  pub met : Keeps f name code (λ κ a x e. outcome κ x e ≡ definition κ a)
 
 -- the arguments of a call, in their order
 abbrev pub arg1 : {A B : Type 0} → A × B → A

@@ -2,7 +2,6 @@
 -- Assumes nothing.
 use Rattle.std.proofs.Common.{◌≡◌, ℕ, ◌+◌, ◌*◌, ◌≤◌, true, List, ◌++◌, length, take, drop, replicate, sym, refl, ap, ◌∙◌, append_assoc, add_assoc, arith, length-append, length-take-le, take-take, drop-drop, take-add, drop_at}
 use lib.Bits.{bit_xor}
-use lib.ListN.{length-replicate}
 use lib.Seq.{take-append-add, drop-append-add}
 use Rattle.numbers.specs.Bytes.{Bytes, part, word, put, all_zero}
 use Rattle.numbers.proofs.Bytes.{append_bytes, part_bytes, replicate_bytes}

@@ -1,5 +1,6 @@
 // FNV-1a of 64 bits and CRC32-C.
 #![tactic(auto)]
+
 mod bits;
 pub mod crc;
 mod digits;

@@ -1,5 +1,6 @@
 // The SLC1 header: its fields, the sizes that follow from it, and the header test.
 #![tactic(auto)]
+
 pub mod answer;
 pub mod extent;
 pub mod fields;

@@ -1,5 +1,6 @@
 // Every call for a host in C: plain numbers and byte slices, a call for each number and one for all.
 #![tactic(auto)]
+
 pub mod age;
 pub mod check;
 pub mod digest;

@@ -1,7 +1,7 @@
 -- What a renewed CRC leaves: it is the CRC of the header as it then stands, and every other field is as before.
 -- Assumes nothing.
 use Prim.Native.Nat.{ℕ, ◌≤◌}
-use mathlib.Core.Path.{◌≡◌, refl, sym, ◌∙◌}
+use mathlib.Core.Path.{◌≡◌, sym, ◌∙◌}
 use mathlib.Core.List.{List, ◌++◌}
 use lib.Dec.{T, lit≤}
 use lib.ListN.{length}

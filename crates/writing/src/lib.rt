@@ -1,5 +1,6 @@
 // An SLC1 image written: create and the state calls.
 #![tactic(auto)]
+
 pub mod create;
 pub mod fields;
 pub mod judge;

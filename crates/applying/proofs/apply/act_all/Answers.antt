@@ -1,6 +1,5 @@
 -- `applying::apply::act_all` meets its contract. The loop's invariant: the records so far have acted.
 -- Assumes nothing.
-use Prim.Native.Nat.{◌-◌}
 use borrow.Author.Rules.{rules}
 use lib.ListN.{length}
 use mathlib.Core.Path.{refl, ap, ◌∙◌}

@@ -1,6 +1,6 @@
 -- `applying::apply::append_all` meets its contract. The loop's invariant: the new keys so far have their slots.
 -- Assumes nothing.
-use Prim.Native.Nat.{ℕ, ◌+◌, ◌-◌}
+use Prim.Native.Nat.{ℕ, ◌+◌}
 use borrow.Author.Rules.{rules}
 use lib.ListN.{length, get_or}
 use mathlib.Core.List.{List}

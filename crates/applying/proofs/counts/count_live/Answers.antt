@@ -1,7 +1,7 @@
 -- `applying::counts::count_live` meets its contract. The loop's invariant: the sum counts the live slots so far.
 -- Assumes nothing.
 use borrow.Author.Rules.{rules}
-use Prim.Native.Nat.{ℕ, ◌+◌, ◌-◌}
+use Prim.Native.Nat.{ℕ, ◌+◌}
 use mathlib.Core.Path.{◌≡◌, refl, ap, ap₂, ◌∙◌, sym}
 use native.Mathlib.Omega.{arith}
 use lib.Dec.{eqb}
@@ -10,7 +10,7 @@ use Rattle.probing.proofs.Counting.{count_le}
 use Rattle.probing.proofs.Change.{count_more}
 use Rattle.batch.proofs.Every.{one_le}
 use Rattle.probing.specs.Table.{live_count}
-use Rattle.image.specs.Table.{meta_of, table_of}
+use Rattle.image.specs.Table.{table_of}
 use Rattle.applying.proofs.counts.count_live.Invariants.{alive}
 use Rattle.applying.proofs.counts.count_live.Goals as goal
 use Rattle.applying.proofs.counts.count_live.Goals.{After-one_if-sum}

@@ -1,7 +1,6 @@
 -- `batch::decided::hash_keys` meets its contract. The loop's invariant: the hashes so far are noted.
 -- Assumes nothing.
 use borrow.Author.Rules.{rules}
-use Prim.Native.Nat.{◌-◌}
 use mathlib.Core.Path.{ap, subst, ◌∙◌}
 use native.Mathlib.Omega.{arith}
 use Rattle.digests.specs.Fnv.{fnv1a64}

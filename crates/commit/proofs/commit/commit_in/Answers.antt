@@ -78,15 +78,15 @@ apply-requires c =
       shaped = c.requires.shaped;
       generation_bound = c.requires.generation_bound;
       prepared = record {
-          hashed = c.hash_keys-hashes.ensures;
-          turned = noted.0;
-          placed = noted.1;
-          ordered = o.0;
-          counted = o.1;
-          room = omega (arith, further.room, c.requires.shaped.highwater, o.1);
-          ahead = further.ahead;
-          passed = further.passed;
-        };
+        hashed = c.hash_keys-hashes.ensures;
+        turned = noted.0;
+        placed = noted.1;
+        ordered = o.0;
+        counted = o.1;
+        room = omega (arith, further.room, c.requires.shaped.highwater, o.1);
+        ahead = further.ahead;
+        passed = further.passed;
+      };
     }
 
 pub returns : goal.returns

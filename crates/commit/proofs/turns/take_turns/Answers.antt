@@ -1,6 +1,6 @@
 -- `commit::turns::take_turns` meets its contract. The loop's invariant: the turns and the buckets so far are noted.
 -- Assumes nothing.
-use Prim.Native.Nat.{ℕ, ◌-◌, ◌<◌}
+use Prim.Native.Nat.{ℕ, ◌<◌}
 use borrow.Author.Rules.{rules}
 use mathlib.Core.Path.{◌≡◌, subst}
 use native.Mathlib.Omega.{arith}

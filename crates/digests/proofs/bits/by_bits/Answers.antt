@@ -1,6 +1,6 @@
 -- `bits::by_bits` meets its contract. The loop's invariant: the state is what i bits make of x.
 -- Assumes nothing.
-use Rattle.std.proofs.Common.{◌≡◌, ℕ, ◌-◌, sym, refl, ap, ◌∙◌, add-one, rules}
+use Rattle.std.proofs.Common.{◌≡◌, ℕ, sym, refl, ap, ◌∙◌, add-one, rules}
 use Rattle.digests.specs.Crc.{crc_bit, crc_bits}
 use Rattle.digests.proofs.Linear.{bits_last, bits_below}
 use Rattle.digests.proofs.bits.by_bits.Goals as goal

@@ -1,6 +1,6 @@
 -- `crc::after` meets its contract. The loop's invariant: the bytes behind the first n words make the same of the state.
 -- Assumes nothing.
-use Rattle.std.proofs.Common.{◌≡◌, ℕ, ◌+◌, ◌-◌, ◌*◌, ◌/◌, ◌≤◌, length, drop, sym, refl, ap, ◌∙◌, arith, rules}
+use Rattle.std.proofs.Common.{◌≡◌, ℕ, ◌+◌, ◌*◌, ◌/◌, ◌≤◌, length, drop, sym, refl, ap, ◌∙◌, arith, rules}
 use lib.Bits.{bit_xor}
 use Rattle.digests.specs.Crc.{crc_bits, crc_from}
 use Rattle.digests.proofs.Pieces.{crc_word}

@@ -1,6 +1,6 @@
 -- `crc::after_bytes` meets its contract. The loop's invariant: the bytes from i on make the same of the state.
 -- Assumes nothing.
-use Rattle.std.proofs.Common.{◌-◌, sym, refl, ◌∙◌, rules}
+use Rattle.std.proofs.Common.{sym, refl, ◌∙◌, rules}
 use Rattle.digests.proofs.Pieces.{crc_next, crc_end}
 use Rattle.digests.proofs.crc.after_bytes.Goals as goal
 

@@ -1,6 +1,6 @@
 -- `fnv::fnv1a64_of` meets its contract. The loop's invariant: the hash goes on from h with the bytes from i.
 -- Assumes nothing.
-use Rattle.std.proofs.Common.{◌-◌, sym, refl, ◌∙◌, rules}
+use Rattle.std.proofs.Common.{sym, refl, ◌∙◌, rules}
 use Rattle.digests.specs.Fnv.{fnv1a64}
 use Rattle.digests.proofs.Pieces.{fnv_next, fnv_end}
 use Rattle.digests.proofs.fnv.fnv1a64_of.Goals as goal

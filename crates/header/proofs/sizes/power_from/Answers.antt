@@ -1,6 +1,5 @@
 -- `header::sizes::power_from` meets its contract. The loop's invariant: the power is one that the search comes by.
 -- Assumes nothing.
-use Prim.Native.Nat.{◌-◌}
 use native.Mathlib.Omega.{arith}
 use Rattle.header.proofs.Power.{passed_first, passed_positive, passed_next, passed_last}
 use Rattle.header.proofs.sizes.power_from.Goals as goal

@@ -1,7 +1,6 @@
 -- `image::check::read_slots` meets its contract. The loop's invariant: the tally is that of the slots passed.
 -- Assumes nothing.
 use borrow.Author.Rules.{rules}
-use Prim.Native.Nat.{◌-◌}
 use mathlib.Core.Path.{refl, ◌∙◌, ap}
 use native.Mathlib.Omega.{arith}
 use Rattle.probing.specs.Counting.{sum_to, count_to, all_to}

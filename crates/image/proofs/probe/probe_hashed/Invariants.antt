@@ -1,7 +1,6 @@
 -- `image::probe::probe_hashed` meets its contract. The loop's invariant: so many buckets are passed, and bucket b comes next.
 -- Assumes nothing.
 use Prim.Native.Nat.{◌-◌, ◌≤◌, ◌<◌}
-use Rattle.probing.proofs.Report as law
 use Rattle.probing.proofs.Report.{OnWay}
 use Rattle.image.specs.Table.{table_of}
 use Rattle.image.proofs.probe.probe_hashed.Given as goal

@@ -1,6 +1,6 @@
 -- `listing::bits::agrees_at` meets its contract. The loop's invariant: the bits that are left decide.
 -- Assumes nothing.
-use Prim.Native.Nat.{◌+◌, ◌*◌, ◌-◌}
+use Prim.Native.Nat.{◌+◌, ◌*◌}
 use mathlib.Core.Path.{◌≡◌}
 use lib.ListN.{drop}
 use Rattle.listing.specs.Match.{agrees}

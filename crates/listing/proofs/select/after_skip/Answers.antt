@@ -1,7 +1,7 @@
 -- `listing::select::after_skip` meets its contract. The loop's invariant: `seen` slots below n are wanted.
 -- Assumes nothing.
 use borrow.Author.Rules.{rules}
-use Prim.Native.Nat.{ℕ, ◌+◌, ◌-◌, ◌<◌}
+use Prim.Native.Nat.{ℕ, ◌+◌, ◌<◌}
 use mathlib.Core.Path.{refl, ◌∙◌, ap}
 use native.Mathlib.Omega.{arith}
 use Rattle.listing.specs.Scan.{passing}

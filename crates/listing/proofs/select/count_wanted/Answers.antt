@@ -1,7 +1,6 @@
 -- `listing::select::count_wanted` meets its contract. The loop's invariant: n is the next that is wanted, and the total counts those below it.
 -- Assumes nothing.
 use borrow.Author.Rules.{rules}
-use Prim.Native.Nat.{◌-◌}
 use mathlib.Core.Path.{◌≡◌, sym, ap}
 use native.Mathlib.Omega.{arith}
 use lib.ListN.{length}
@@ -16,7 +15,7 @@ loop-n-init c =
     (search rules, sym (ap length r.none), next_itself r)
 
 pub next_wanted-n-requires-in-loop-n : goal.next_wanted-n-requires-in-loop-n
-next_wanted-n-requires-in-loop-n c =    record { shaped = search rules; right = search rules; n_bound = search rules }
+next_wanted-n-requires-in-loop-n c = record { shaped = search rules; right = search rules; n_bound = search rules }
 
 pub loop-n-preserved : goal.loop-n-preserved
 loop-n-preserved c =

@@ -1,10 +1,8 @@
 -- `listing::select::next_wanted` meets its contract. The loop's invariant: no slot from n up to here is wanted.
 -- Assumes nothing.
 use borrow.Author.Rules.{rules}
-use Prim.Native.Nat.{◌-◌}
 use mathlib.Core.Path.{refl, sym, ◌∙◌}
 use native.Mathlib.Omega.{arith}
-use Rattle.listing.specs.Select.{wanted_at}
 use Rattle.listing.proofs.Passing.{passing_no}
 use Rattle.listing.proofs.select.next_wanted.Goals as goal
 

@@ -29,7 +29,7 @@ returns-then-count-eq0 c =
     same_outcome e (refl, refl)
 
 pub write_wanted-requires : goal.write_wanted-requires
-write_wanted-requires c =    record { shaped = search rules; right = search rules; count_in_bounds = search rules; count_in_bounds_2 = search rules }
+write_wanted-requires c = record { shaped = search rules; right = search rules; count_in_bounds = search rules; count_in_bounds_2 = search rules }
 
 pub returns : goal.returns
 unfolding matches wanted_at

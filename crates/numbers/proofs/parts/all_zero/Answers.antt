@@ -2,7 +2,7 @@
 -- Assumes nothing.
 use borrow.Author.Rules.{rules}
 use borrow.Author.Tests.{not-true, not-false}
-use Prim.Native.Nat.{◌*◌, ◌-◌, ◌/◌}
+use Prim.Native.Nat.{◌*◌, ◌/◌}
 use mathlib.Core.Bool.{true, false}
 use mathlib.Core.Path.{◌∙◌, sym}
 use lib.ListN.{length}

@@ -1,7 +1,6 @@
 -- `numbers::parts::clear` meets its contract. The loop's invariant: i zeros have been put.
 -- Assumes nothing.
 use borrow.Author.Rules.{rules}
-use Prim.Native.Nat.{◌-◌}
 use mathlib.Core.Path.{◌≡◌, refl, sym}
 use Rattle.numbers.proofs.Put.{put_none, put_cleared}
 use Rattle.numbers.proofs.parts.clear.Goals as goal

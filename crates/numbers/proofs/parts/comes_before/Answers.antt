@@ -1,7 +1,6 @@
 -- `numbers::parts::comes_before` meets its contract. The loop's invariant: what is left of both slices decides.
 -- Assumes nothing.
 use borrow.Author.Rules.{rules}
-use Prim.Native.Nat.{◌-◌}
 use mathlib.Core.Path.{◌∙◌, sym}
 use Rattle.numbers.proofs.Compare.{below_on, below_yes, below_no, below_short, below_end}
 use Rattle.numbers.proofs.EqualWords.{below_left}

@@ -1,7 +1,6 @@
 -- `numbers::parts::copy_to` meets its contract. The loop's invariant: the first i bytes of src have been put.
 -- Assumes nothing.
 use borrow.Author.Rules.{rules}
-use Prim.Native.Nat.{◌-◌}
 use mathlib.Core.Path.{refl, sym}
 use lib.Seq.{take_all}
 use Rattle.numbers.proofs.Put.{put_none, put_copied}

@@ -1,7 +1,6 @@
 -- `numbers::parts::write_over` meets its contract. The loop's invariant: the first k words have been put.
 -- Assumes nothing.
 use borrow.Author.Rules.{rules}
-use Prim.Native.Nat.{◌-◌}
 use mathlib.Core.Path.{refl, sym}
 use native.Mathlib.Nat.{zero-add}
 use native.Mathlib.Omega.{arith}

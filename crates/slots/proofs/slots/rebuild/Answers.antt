@@ -4,7 +4,6 @@
 use borrow.Author.Rules.{rules}
 use mathlib.Core.Path.{◌≡◌, refl, ap, ◌∙◌}
 use native.Mathlib.Omega.{arith}
-use Prim.Native.Nat.{◌-◌}
 use Rattle.slots.specs.Slots.{rebuilt_to, rebuilt}
 use Rattle.slots.proofs.Table.Rebuilt.{rebuilt_fit, rebuilt_more, rebuilt_missing}
 use Rattle.slots.proofs.slots.rebuild.Goals as goal
