@@ -70,7 +70,7 @@ def table_complaints(text, known, tried):
 def unstated():
     """The public functions of the crates below host that neither Calls nor Outcomes speaks of."""
     statements = read("crates/demands/specs/Calls.antt") + read("crates/demands/specs/Outcomes.antt")
-    stated = set(re.findall(r"^use Rattle\.(\w+)\.proofs\.(\w+)\.(\w+)(?:\.Reads)? as ", statements, re.M))
+    stated = set(re.findall(r"^use Rattle\.(\w+)\.proofs\.(\w+)\.(\w+)(?:\.Reads|\.Symbol)? as ", statements, re.M))
     for crate in crates():
         root = f"crates/{crate}/src/lib.rt"
         below = crate != "host" and os.path.exists(os.path.join(ROOT, root))

@@ -88,14 +88,15 @@ TEXT = read("README.md")
 DEMO, FIRST = block("console", "$ bench "), block("console", "$ ./first ")
 AFTER_DEMO = [text for text in blocks("console") if text != DEMO]
 PROGRAM = block("c", "int main(")
-TRUSTED, ASSUMED = blocks("text")
+TRUSTED, REACHED, ASSUMED = blocks("text")
 
 
 def main():
     programs = ["fullcheck", "bench_examples"]
-    libraries = sorted(set(crates()) - set(programs))
+    libraries = sorted(set(crates()) - {*programs, "host_c"})
     same("what the programs assume", "".join(map(axioms, programs)), ASSUMED)
     same("what the libraries assume", "".join(map(axioms, libraries)), "")
+    same("what the library for C assumes", axioms("host_c"), REACHED)
 
     same("the demo's output", demo(), DEMO)
     same("the picture of the demo's cache", read("target", "demo", "cache.svg"), read("docs", "cache.svg"))

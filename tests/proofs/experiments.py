@@ -31,10 +31,10 @@ EXPERIMENTS = {
         [("image/src/lookup.rt", "if key.len() != s.layout.key_size {", "if key.len() > s.layout.key_size {")],
         "image", "looked", "length",
     ),
-    # what begin owes, said of the routine of checkpoint
+    # what begin owes, said of the code of checkpoint
     "begin_by_checkpoint": Experiment(
-        [("demands/specs/Calls.antt", "Owes begin.ended begin.Symbol.routine", "Owes begin.ended checkpoint.Symbol.routine")],
-        "demands", "calls", "state.checkpoint.Symbol.routine",
+        [("demands/specs/Calls.antt", "Owes begin_ended begin.name begin.code", "Owes begin_ended checkpoint.name checkpoint.code")],
+        "demands", "calls", "state.checkpoint.Symbol.code",
     ),
     # a scan that ignores its skip, in definition, code and proof
     "scan_without_skip": Experiment(
