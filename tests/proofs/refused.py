@@ -87,9 +87,23 @@ def change(room, programs):
     return None
 
 
-def tried(room, programs, *words):
+def ask(room, wrong, said):
+    """Has the search answer the goals that no proof file answers, and that it left open by itself: then it says what it found."""
+    file = f"{wrong.crate}/proofs/{wrong.where.replace('::', '/')}/Answers.antt"
+    uses = f"use Rattle.{wrong.crate}.proofs.{wrong.where.replace('::', '.')}.Goals as goal\n"
+    answers = room.read(file) or uses
+    if "rules" not in answers.partition(uses)[0]:
+        answers = answers.replace(uses, "use Rattle.std.proofs.Common.{rules}\n" + uses)
+    for goal in dict.fromkeys(re.findall(r"\(`([^`]+)`\)", "\n".join(goals(wrong, said)))):
+        answers += f"\npub {goal} : goal.{goal}\n{goal} c = search rules\n"
+    room.write(file, answers)
+
+
+def tried(room, programs, *words, answers=""):
     """What `rt check` of the crate with these wrong programs says, or why it says nothing."""
     why = change(room, programs)
+    if answers and not why:
+        ask(room, programs[0], answers)
     said, status = room.check("--jobs", "1", *words) if not why else ("", 1)
     room.restore()
     return said, why or (None if status == 1 else f"is not judged: rt check ended with status {status}: {said[-300:]}")
@@ -98,17 +112,19 @@ def tried(room, programs, *words):
 def complaint(room, wrong):
     # a function is proved by what the others promise; a law may rest on anything
     alone = wrong.kind == "in" and all(file.startswith(("src/", "proofs/")) for file, _, _ in wrong.edits)
-    said, why = tried(room, [wrong], *(["--only", f"{wrong.crate}::{wrong.where}"] if alone else []))
+    words = ["--only", f"{wrong.crate}::{wrong.where}"] if alone else []
+    said, why = tried(room, [wrong], *words)
+    if not why and judged(wrong, said) and list(goals(wrong, said)):
+        said, why = tried(room, [wrong], *words, answers=said)
     return why or judged(wrong, said), said
 
 
-def complaints(folder, programs):
+def complaints(programs):
     """Of the wrong programs of one edit file."""
-    room = Room(tempfile.mkdtemp(dir=folder), programs[0].crate)
-    said, why = tried(room, programs)
-    for wrong in programs:
-        if why or judged(wrong, said):
-            yield wrong, *complaint(room, wrong)
+    with tempfile.TemporaryDirectory(prefix="slc1-refused-") as folder:
+        room = Room(folder, programs[0].crate)
+        said, why = tried(room, programs)
+        return [(wrong, *complaint(room, wrong)) for wrong in programs if why or judged(wrong, said)]
 
 
 def by_file(programs):
@@ -120,8 +136,8 @@ def main():
     chosen = [word for word in sys.argv[1:] if word != "--say"]
     programs = [wrong for wrong in wrong_programs() if not chosen or wrong.crate in chosen]
     found = 0
-    with tempfile.TemporaryDirectory(prefix="slc1-refused-") as folder, ThreadPoolExecutor(WORKERS) as pool:
-        for told in pool.map(lambda share: list(complaints(folder, share)), by_file(programs)):
+    with ThreadPoolExecutor(WORKERS) as pool:
+        for told in pool.map(complaints, by_file(programs)):
             for wrong, why, said in told:
                 if why:
                     print(f"{wrong.crate}/{wrong.edit}: {wrong.name} {wrong.kind} {wrong.where} {why}", flush=True)

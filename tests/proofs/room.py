@@ -46,22 +46,35 @@ class Room:
 
     def change(self, file, old, new, once=True):
         """Puts a new text in the place of an old one in a file below crates/; whether it stands there, and once only if so is asked."""
-        path = os.path.join(self.folder, "crates", file)
-        if not os.path.exists(path):
-            return False
-        with open(path) as text:
-            before = text.read()
+        before = self.read(file)
         if old not in before or once and before.count(old) != 1:
             return False
-        self.were.setdefault(path, before)
-        with open(path, "w") as text:
-            text.write(before.replace(old, new))
+        self.write(file, before.replace(old, new))
         return True
 
+    def read(self, file):
+        """A file below crates/, nothing where there is none."""
+        path = os.path.join(self.folder, "crates", file)
+        if not os.path.exists(path):
+            return ""
+        with open(path) as text:
+            return text.read()
+
+    def write(self, file, text):
+        self.were.setdefault(file, self.read(file))
+        path = os.path.join(self.folder, "crates", file)
+        os.makedirs(os.path.dirname(path), exist_ok=True)
+        with open(path, "w") as out:
+            out.write(text)
+
     def restore(self):
-        for path, before in self.were.items():
-            with open(path, "w") as text:
-                text.write(before)
+        for file, before in list(self.were.items()):
+            self.write(file, before)
+            if not before:
+                path = os.path.join(self.folder, "crates", file)
+                os.remove(path)
+                if not os.listdir(os.path.dirname(path)):
+                    os.rmdir(os.path.dirname(path))
         self.were.clear()
 
     def check(self, *words):
