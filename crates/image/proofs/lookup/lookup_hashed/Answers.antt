@@ -24,7 +24,7 @@ looked : (c : After-probe_hashed-probed) (r : Probe) → c.probe_hashed-probed.r
     lookup_by a.s a.image.now (heard r) ≡ lookup_in a.s a.image.now a.key.now
 looked c r e =
     let a = c.args in
-    looked_by a.s a.image.now a.key.now c.if-key-s.false (heard r) (ended c r e)
+    looked_by a.s a.image.now a.key.now (omega (arith, c.if-key-s.false)) (heard r) (ended c r e)
 
 pub returns-then-key-s : goal.returns-then-key-s
 returns-then-key-s c =
