@@ -24,6 +24,7 @@ FACT = re.compile(
     r"the goal does not follow from what it read"
     r"|computed as far as they go, the two (types|sides|values) (are|differ only|first differ)"
     r"|as printed, the two (types|sides|values) (differ only|first differ)"
+    r"|the two (types|sides|values) agree until one ends"
     r"|on the face `i = 1` this λ's body is"
     r"|expected type `⊥`, but this has type")
 # a refusal that shows nothing, whatever else it says: a proof that lost its shape, or a prover that met a bound of its own

@@ -7,7 +7,7 @@ use Rattle.batch.proofs.Noted.{noted_none, noted_as}
 use Rattle.batch.proofs.Turning.{turn_count, turn_new_at}
 use Rattle.batch.specs.NewKeys.{new_count, new_at}
 use Rattle.batch.specs.Notes.{Noted}
-use Rattle.commit.proofs.TestGroups.{room_decides, sound_small}
+use Rattle.commit.proofs.TestGroups.{room_decides}
 use Rattle.soundness.proofs.Accepted.{further_facts}
 use Rattle.image.specs.Lookup.{is_live}
 use Rattle.writing.proofs.Answers.{says_refused, says_accepted}

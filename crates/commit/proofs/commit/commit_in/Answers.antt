@@ -1,6 +1,6 @@
 -- `commit::commit::commit_in` meets its contract: what the sound tests refuse is refused, and the rest is told by what comes then.
 -- Assumes nothing.
-use mathlib.Core.Path.{◌≡◌, sym, ◌∙◌}
+use mathlib.Core.Path.{sym, ◌∙◌}
 use Rattle.commit.proofs.TestGroups.{sound_stops}
 use Rattle.writing.proofs.Answers.{says_refused}
 use Rattle.commit.proofs.commit.commit_in.Goals as goal
