@@ -64,14 +64,14 @@ def goals(wrong, said):
 def judged(wrong, said):
     """Why what is said does not show that the wrong program is refused where it is wrong, because a fact fails there; or nothing."""
     against = list(errors(wrong, said))
-    there = [message for message in against if not GONE.search(message)]
+    gone = [message for message in against if GONE.search(message)]
+    if gone:
+        return "is refused where the proof names what it took away: " + gone[0][:300]
     if any(FALSE in note for note in goals(wrong, said)):
         return None
-    if there:
-        shown = not NOTHING.search(there[0].split("was found. Every way was tried")[0]) and FACT.search(there[0])
-        return None if shown else "is refused, and not because a fact fails: " + there[0][:300]
     if against:
-        return "is refused only since the proof names what it took away: " + against[0][:300]
+        shown = not NOTHING.search(against[0].split("was found. Every way was tried")[0]) and FACT.search(against[0])
+        return None if shown else "is refused, and not because a fact fails: " + against[0][:300]
     left = list(goals(wrong, said))
     return "is refused, and no fact is shown: " + left[0][:300] if left else "is not refused there"
 
@@ -115,7 +115,8 @@ def complaint(room, wrong):
     alone = wrong.kind == "in" and all(file.startswith(("src/", "proofs/")) for file, _, _ in wrong.edits)
     words = ["--only", f"{wrong.crate}::{wrong.where}"] if alone else []
     said, why = tried(room, [wrong], *words)
-    if not why and judged(wrong, said) and list(goals(wrong, said)):
+    gone = any(GONE.search(message) for message in errors(wrong, said))
+    if not why and not gone and judged(wrong, said) and list(goals(wrong, said)):
         said, why = tried(room, [wrong], *words, answers=said)
     return why or judged(wrong, said), said
 
