@@ -30,15 +30,15 @@ act_on_key-requires c =
     let a = c.args in
     record {
       shaped = search rules;
-      r_len = ap length c.«record».ensures {-?After-record-} ∙ record_length a.s.layout a.batch.now a.i c.requires.i_bound;
-      hash_value = c.requires.noted.each a.i c.requires.i_bound ∙ ap (λ r. fnv1a64 (key_in a.s.layout r)) (sym c.«record».ensures {-?After-record-});
+      r_len = ap length c.«record».ensures ∙ record_length a.s.layout a.batch.now a.i c.requires.i_bound;
+      hash_value = c.requires.noted.each a.i c.requires.i_bound ∙ ap (λ r. fnv1a64 (key_in a.s.layout r)) (sym c.«record».ensures);
     }
 
 pub returns-then-turns-i-eq-LIVE_TURN : goal.returns-then-turns-i-eq-LIVE_TURN
 returns-then-turns-i-eq-LIVE_TURN c =
     let a = c.args in
     c.act_on_key.ensures
-    ∙ acts a.s a.image.now (new_by a.turns.now) a.batch.now a.i (sym (in_turn (goal.at.returns-then-turns-i-eq-LIVE_TURN c).Start) ∙ eq-eqb (get_or a.turns.now a.i 0) live_turn c.if-turns-i-eq-LIVE_TURN.true) _ c.«record».ensures {-?After-record-}
+    ∙ acts a.s a.image.now (new_by a.turns.now) a.batch.now a.i (sym (in_turn (goal.at.returns-then-turns-i-eq-LIVE_TURN c).Start) ∙ eq-eqb (get_or a.turns.now a.i 0) live_turn c.if-turns-i-eq-LIVE_TURN.true) _ c.«record».ensures
 
 pub returns-else-turns-i-eq-LIVE_TURN : goal.returns-else-turns-i-eq-LIVE_TURN
 returns-else-turns-i-eq-LIVE_TURN c =

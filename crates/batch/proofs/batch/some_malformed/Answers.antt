@@ -18,7 +18,7 @@ use Rattle.batch.proofs.batch.some_malformed.Goals.{After-is_malformed}
 judged : (c : After-is_malformed)
     → let a = c.args in
     c.is_malformed.result ≡ malformed a.l (record_at a.l a.batch.now c.loop-i.i)
-judged c = c.is_malformed.ensures ∙ ap (malformed c.args.l) c.«record».ensures {-?After-record-}
+judged c = c.is_malformed.ensures ∙ ap (malformed c.args.l) c.«record».ensures
 
 pub loop-i-init : goal.loop-i-init
 unfolding all_to
@@ -27,7 +27,7 @@ loop-i-init c = (search rules, search rules, refl)
 pub is_malformed-requires : goal.is_malformed-requires
 is_malformed-requires c =
     let l = c.loop-i in
-    record { slot_sized = c.requires; r_len = ap length c.«record».ensures {-?After-record-} ∙ record_length c.args.l c.args.batch.now l.i (search rules) }
+    record { slot_sized = c.requires; r_len = ap length c.«record».ensures ∙ record_length c.args.l c.args.batch.now l.i (search rules) }
 
 pub returns-then-is_malformed : goal.returns-then-is_malformed
 unfolding some_malformed well
