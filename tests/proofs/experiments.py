@@ -22,13 +22,13 @@ EXPERIMENTS = {
             ("host/specs/Places.antt", "key_start, index_start}", "key_start, revision_start}"),
             ("host/specs/Places.antt", "place_in o slot (index_start", "place_in o slot (revision_start"),
             ("host/src/sizes.rt", "+ 16 + align8(key_size)", "+ 8 + align8(key_size)"),
-            ("host/proofs/sizes/slc1_index_offset/Answers.antt", "+ 16 + key", "+ 8 + key"),
+            ("host/proofs/sizes/slc1_index_offset/Answers.antt", "index_start", "revision_start"),
         ],
         "demands", "index_placed", "`16` (expected) and the other has `8` (found)",
     ),
     # a lookup that takes a serial which was cut
     "cut_serial": Experiment(
-        [("image/src/lookup.rt", "if key.len() != s.layout.key_size {", "if key.len() > s.layout.key_size {")],
+        [("image/src/lookup.rt", "if key.len() != self.shape.layout.key_size {", "if key.len() > self.shape.layout.key_size {")],
         "image", "looked", "length",
     ),
     # what begin owes, said of the code of checkpoint
@@ -40,7 +40,7 @@ EXPERIMENTS = {
     "scan_without_skip": Experiment(
         [
             ("listing/specs/Scan.antt", "(λ key. true)) skip limit numbers)", "(λ key. true)) 0 limit numbers)"),
-            ("listing/src/scan.rt", "&image[0..0], skip, limit", "&image[0..0], 0, limit"),
+            ("listing/src/scan.rt", "&All {}, skip, limit", "&All {}, 0, limit"),
             ("listing/proofs/scan/scan/Answers.antt", "(λ key. true)) a.skip", "(λ key. true)) 0"),
         ],
         "demands", "scan_list", "`skip` (expected) and the other has `0` (found)",

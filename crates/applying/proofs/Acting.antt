@@ -1,6 +1,7 @@
 -- What a record does to the image, by what it depends on.
 -- Assumes nothing.
 use Prim.Native.Nat.{ℕ, ◌*◌, ◌≤◌, ◌<◌}
+use lib.Dec.{ltb}
 use mathlib.Core.Path.{◌≡◌, refl, ap, ◌∙◌}
 use mathlib.Core.Bool.{Bool, true, false, not, ◌&&◌}
 use mathlib.Core.List.{List}
@@ -8,21 +9,33 @@ use native.Mathlib.Nat.{mod-lt}
 use native.Mathlib.Omega.{arith}
 use borrow.Author.Tests.{lt-ltb, le-ltb}
 use Rattle.probing.specs.Probe.{Probed, found, last_of, count_of}
-use Rattle.probing.specs.Report.{report}
-use Rattle.probing.specs.Table.{live_count, tombstone_count}
+use Rattle.std.specs.Bool.{then_some}
+use Rattle.std.proofs.lemmas.Bool.{ltb-true}
+use Rattle.probing.specs.Report.{report, Hint}
+use Rattle.probing.specs.Table.{Table, live_count, tombstone_count}
 use Rattle.probing.proofs.Counting.{count_le}
+use Rattle.probing.proofs.Report.{left_inside}
 use Rattle.header.specs.declared.shape.Shape.{Shape}
 use Rattle.header.specs.Shaped.{Shaped}
 use Rattle.image.specs.Table.{table_of}
 use Rattle.image.specs.Lookup.{probe_of}
-use Rattle.image.specs.Told.{report_of}
+use Rattle.image.specs.Told.{free_of, report_of}
 use Rattle.image.specs.declared.probe.Report.{Report}
 use Rattle.image.specs.declared.probe.Probe.TheVariants.{Found}
 use Rattle.image.proofs.Looked.{reported_end, found_below}
-use Rattle.slots.specs.Slots.{rebuilt, counted}
+use Rattle.slots.specs.Slots.{Hinted, rebuilt, counted}
+use Rattle.slots.proofs.Table.Indexed.{told_free}
 use Rattle.batch.specs.Batch.{record_at, key_in, record_key, decides}
 use Rattle.header.specs.Counters.{with_counters}
 use Rattle.soundness.specs.Apply.{on_live, acted, tidied, recounted, settled}
+
+-- the bucket noted for a key is a hint, if it is one; B, which is no bucket, stands for none
+pub hinted_by : (t : Table) (key : List ℕ) (b : ℕ) → Hint t key b → Hinted t key (then_some (ltb b t.B) b)
+hinted_by t key b hint = go (ltb b t.B) refl
+  where
+    go : (inside : Bool) → ltb b t.B ≡ inside → Hinted t key (then_some inside b)
+    go true e = (ltb-true b t.B e, hint)
+    go false e = tt
 
 module _ (s : Shape) (image : List ℕ) where
   -- what is known of the slot and the bucket where the probe of a key stopped
@@ -35,6 +48,13 @@ module _ (s : Shape) (image : List ℕ) where
       let ended = reported_end s image key r e (Found n examined) is in
       let at : r.bucket ≡ last_of (table_of s image) key examined = ap (λ (x : Report). x.bucket) e ∙ ap (λ (p : Probed). last_of (table_of s image) key (count_of p)) ended in
       (ended, omega (arith, found_below s image key n examined ended, fit.highwater), rw at (mod-lt _ (omega (arith, fit.laid.room))), at)
+
+  -- the bucket that a report leaves for a new key is one
+  pub left_below : Shaped s image → (key : List ℕ) (r : Report) → r ≡ report_of s image key → free_of r < s.layout.bucket_count
+  unfolding report_of table_of
+  left_below fit key r e =
+      let told = report (table_of s image) key in
+      rw (e, told_free s.layout.bucket_count told.tombstone told.bucket) (left_inside (table_of s image) (omega (arith, fit.laid.room)) key)
 
   module _ (new : ℕ → Bool) (batch : List ℕ) (i : ℕ) where
     -- a record acts where it decides and its turn is not a later one, and does nothing elsewhere

@@ -4,10 +4,9 @@ use Prim.Native.Nat.{ℕ, zero, suc, ◌+◌, ◌≤◌, ◌<◌}
 use mathlib.Core.Path.{◌≡◌, refl, ap, ap₂, ◌∙◌}
 use mathlib.Core.Bool.{Bool, true, false}
 use mathlib.Core.List.{List}
-use native.Mathlib.Nat.{le_refl}
 use native.Mathlib.Omega.{arith}
 use lib.Dec.{eqb}
-use lib.ListN.{get_or}
+use lib.ListN.{length, get_or}
 use borrow.Author.Tests.{not-false}
 use Rattle.probing.specs.Report.{Missing, Hint}
 use Rattle.probing.proofs.Counting.{all_at}
@@ -20,6 +19,7 @@ use Rattle.image.specs.Lookup.{probe_of, is_live}
 use Rattle.image.specs.Told.{report_of}
 use Rattle.image.proofs.Looked.{not_live}
 use Rattle.slots.proofs.Table.Indexed.{reported_place}
+use Rattle.batch.specs.declared.new_keys.Turn.{Turn}
 use Rattle.batch.specs.Batch.{record_count, record_at, meta_in, record_key}
 use Rattle.batch.specs.NewKeys.{new_count, new_at}
 use Rattle.batch.specs.Notes.{new_by, some_delete}
@@ -27,7 +27,6 @@ use Rattle.soundness.specs.Apply.{acted, acted_to, after_live, after_new, settle
 use Rattle.applying.specs.Prepared.{kept_place, noted_place, Prepared, one_appended, appended_to, AllMissing, AllHinted}
 use Rattle.batch.proofs.Turning.{turn_new}
 use Rattle.batch.proofs.NewRanks.{is_new_lem, Ranked, new_at_lem}
-use Rattle.soundness.proofs.Live.{Kept, live_kept}
 use Rattle.soundness.proofs.Grown.{Ready, may_commit, Grown, new_grown, new_missing, new_hinted}
 
 -- tests of the records that agree below n have the same ones act
@@ -41,10 +40,10 @@ all_puts : (l : Layout) (batch : List ℕ) → some_delete l batch ≡ false →
 unfolding some_delete
 all_puts l batch e = all_at (record_count l batch) _ (not-false _ e)
 
-module _ (s : Shape) (image batch hashes turns places order : List ℕ) (count : ℕ) (ready : Prepared s image batch hashes turns places order count) where
+module _ (s : Shape) (image batch : List ℕ) (turns : List Turn) (places order : List ℕ) (ready : Prepared s image batch turns places order) where
   -- the order is of records
-  pub order_below : (k : ℕ) → k < count → get_or order k 0 < record_count s.layout batch
-  order_below k l = rw (ready.ordered.each k l) (new_at_lem s.layout (is_live s image) batch k (omega (arith, ready.counted))).inside
+  pub order_below : (k : ℕ) → k < length order → get_or order k 0 < record_count s.layout batch
+  order_below k l = rw (ready.ordered.each k l) (new_at_lem s.layout (is_live s image) batch k (omega (arith, ready.ordered.counted))).inside
 
   -- the records that act by their turns
   pub live_turns : acted_to s (new_by turns) image batch (record_count s.layout batch) ≡ after_live s image batch (record_count s.layout batch)
@@ -52,7 +51,7 @@ module _ (s : Shape) (image batch hashes turns places order : List ℕ) (count :
   live_turns = acted_same s _ _ image batch (record_count s.layout batch) (turn_new s.layout (is_live s image) batch turns ready.turned)
 
   -- the new keys appended in their order
-  pub in_order : (k : ℕ) → k ≤ count → appended_to s batch order (after_live s image batch (record_count s.layout batch)) k ≡ after_new s image batch k
+  pub in_order : (k : ℕ) → k ≤ length order → appended_to s batch order (after_live s image batch (record_count s.layout batch)) k ≡ after_new s image batch k
   unfolding appended_to one_appended after_new
   in_order zero l = refl
   in_order (suc k) l = rw (in_order k (omega arith), ready.ordered.each k l)
@@ -60,17 +59,14 @@ module _ (s : Shape) (image batch hashes turns places order : List ℕ) (count :
   -- what the steps leave, where the shape is the image's
   module _ (fit : Shaped s image) where
     may : Ready s image batch
-    may = may_commit s image batch fit ready.passed (omega (arith, ready.room, ready.counted)) ready.ahead
+    may = may_commit s image batch fit ready.passed (omega (arith, ready.room, ready.ordered.counted)) ready.ahead
 
-    pub left_live : Kept s image batch (record_count s.layout batch) (after_live s image batch (record_count s.layout batch))
-    left_live = live_kept s image batch fit may.formed (record_count s.layout batch) (le_refl _)
+    pub left_new : Grown s image batch (length order) (after_new s image batch (length order))
+    left_new = new_grown s image batch may (length order) (omega (arith, ready.ordered.counted))
 
-    pub left_new : Grown s image batch count (after_new s image batch count)
-    left_new = new_grown s image batch may count (omega (arith, ready.counted))
-
-    pub all_missing : AllMissing s batch order (after_live s image batch (record_count s.layout batch)) count
+    pub all_missing : AllMissing s batch order (after_live s image batch (record_count s.layout batch))
     all_missing k l =
-        rw (in_order k (omega arith), ready.ordered.each k l) (new_missing s image batch may k (omega (arith, ready.counted)))
+        rw (in_order k (omega arith), ready.ordered.each k l) (new_missing s image batch may k (omega (arith, ready.ordered.counted)))
 
     -- the bucket noted for the new key of rank k is a hint when its turn comes
     module _ (k : ℕ) (l : k < new_count s.layout (is_live s image) batch) where
@@ -96,13 +92,13 @@ module _ (s : Shape) (image batch hashes turns places order : List ℕ) (count :
           go true e = λ inside free. absurd (omega arith)
           go false e = rw (reported_place s image key _ refl missing) (new_hinted s image batch may (all_puts s.layout batch e) k l key)
 
-    pub all_hinted : AllHinted s batch places order (after_live s image batch (record_count s.layout batch)) count
+    pub all_hinted : AllHinted s batch places order (after_live s image batch (record_count s.layout batch))
     all_hinted k l =
-        let below : k < new_count s.layout (is_live s image) batch = omega (arith, ready.counted) in
+        let below : k < new_count s.layout (is_live s image) batch = omega (arith, ready.ordered.counted) in
         rw (in_order k (omega arith), ready.ordered.each k l, ready.placed.each _ (new k below).inside) (noted_hint k below)
 
-  pub applied : (b : List ℕ) → b ≡ after_new s image batch count → (t : Shape) → t ≡ with_slots s (s.slot_highwater + count) → settled t b ≡ committed s image batch
+  pub applied : (b : List ℕ) → b ≡ after_new s image batch (length order) → (t : Shape) → t ≡ with_slots s (s.slot_highwater + length order) → settled t b ≡ committed s image batch
   unfolding committed
   applied b eb t et =
       ap₂ settled et eb
-      ∙ ap (λ (k : ℕ). settled (with_slots s (s.slot_highwater + k)) (after_new s image batch k)) ready.counted
+      ∙ ap (λ (k : ℕ). settled (with_slots s (s.slot_highwater + k)) (after_new s image batch k)) ready.ordered.counted

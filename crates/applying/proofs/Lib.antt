@@ -1,4 +1,3 @@
 pub mod StepsKeepHeader
 pub mod Acting
-pub mod Tombstones
 pub mod Applied

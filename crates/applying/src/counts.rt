@@ -1,39 +1,36 @@
 // The counters of a table, counted in the image.
 ghost use Rattle.std.specs.Prelude.{◌≡◌};
-ghost use Rattle.probing.specs.Table.{live_count, tombstone_count};
-ghost use Rattle.header.specs.Shaped.{Shaped};
+ghost use Rattle.probing.specs.Table.{is_tombstone, live_count, tombstone_count};
 ghost use Rattle.image.specs.Table.{table_of};
+ghost use Rattle.image.specs.Told.{bucket_read};
 
-use batch::batch::one_if;
-use header::shape::Shape;
-use image::table::{TOMBSTONE, meta_of, slot_plus1_of};
+use image::table::{Bucket, Image};
 
-// How many slots are live.
-pub fn count_live(image: &[u8], s: Shape) -> usize
-    requires { Shaped s image.now }
-    ensures { result ≡ live_count (table_of s image.now) }
+// How many slots are live. The test is added as a number, for filter and count branch at each slot, which makes a commit slower.
+pub fn count_live(image: &Image) -> usize
+    ensures { result ≡ live_count (table_of image.now.shape image.now.bytes.now) }
 {
-    let highwater = s.slot_highwater;
     let mut sum: usize = 0;
-    let mut n = 0;
-    while n < highwater {
-        sum += one_if(meta_of(image, s.layout, n) == 1);
-        n += 1;
+    for n in 0..image.shape.slot_highwater {
+        sum += usize::from(image.meta_of(n) == 1);
     }
     sum
 }
 
-// How many buckets are TOMBSTONE.
-pub fn count_tombstones(image: &[u8], s: Shape) -> usize
-    requires { Shaped s image.now }
-    ensures { result ≡ tombstone_count (table_of s image.now) }
+// Whether a bucket is TOMBSTONE.
+fn is_tombstone(bucket: Bucket) -> bool
+    ensures { result ≡ is_tombstone (bucket_read bucket) }
 {
-    let count = s.layout.bucket_count;
+    matches!(bucket, Bucket::Tombstone)
+}
+
+// How many buckets are TOMBSTONE, in the same way.
+pub fn count_tombstones(image: &Image) -> usize
+    ensures { result ≡ tombstone_count (table_of image.now.shape image.now.bytes.now) }
+{
     let mut sum: usize = 0;
-    let mut b = 0;
-    while b < count {
-        sum += one_if(slot_plus1_of(image, s.layout, b) == TOMBSTONE);
-        b += 1;
+    for b in 0..image.shape.layout.bucket_count {
+        sum += usize::from(is_tombstone(image.bucket_of(b)));
     }
     sum
 }

@@ -14,3 +14,4 @@ pub mod Words
 pub mod Turning
 pub mod Ranked
 pub mod NewRanks
+pub mod Orders

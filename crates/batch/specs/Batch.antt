@@ -1,7 +1,7 @@
 -- "A batch is our house form: records of one fixed size, no header, each laid out as a slot, meta 1 for put and 0 for
 -- delete. Padding is zero; a delete has zero revision and index."
 -- Assumes nothing.
-use Rattle.std.specs.Prelude.{ℕ, ◌+◌, ◌*◌, ◌-◌, ◌/◌, ◌%◌, ◌≡◌, Bool, not, ◌&&◌, ◌||◌, List, eqb, ltb, length}
+use Rattle.std.specs.Prelude.{ℕ, ◌+◌, ◌*◌, ◌-◌, ◌/◌, ◌%◌, ◌<◌, ◌≡◌, Bool, not, ◌&&◌, ◌||◌, List, eqb, ltb, length, get_or}
 use Rattle.numbers.specs.Bytes.{part, word, same, all_zero}
 use Rattle.probing.specs.Counting.{all_to}
 use Rattle.header.specs.declared.shape.Layout.{Layout}
@@ -10,6 +10,10 @@ use Rattle.header.specs.Sizes.{align8, slot_size}
 -- a record is laid out as a slot: its size is that of meta, key, revision and index, with the padding
 abbrev pub SlotSized : Layout → Type 0
 SlotSized l = l.slot_size ≡ slot_size l.key_size l.index_size
+
+-- the bytes of a record, laid out as a slot
+abbrev pub RecordSized : Layout → List ℕ → Type 0
+RecordSized l r = SlotSized l × (length r ≡ l.slot_size)
 
 -- "batch 0 to 1,024 records" (CR 5)
 abbrev pub most_records : ℕ
@@ -21,6 +25,10 @@ record_count l batch = length batch / l.slot_size
 
 unfoldable pub record_at : Layout → List ℕ → ℕ → List ℕ
 record_at l batch i = part batch (i * l.slot_size) l.slot_size
+
+-- numbers of records
+abbrev pub ByIndex : Layout → List ℕ → List ℕ → Type 0
+ByIndex l batch records = (k : ℕ) → k < length records → get_or records k 0 < record_count l batch
 
 -- the parts of a record
 unfoldable pub meta_in : List ℕ → ℕ

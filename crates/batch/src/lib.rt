@@ -4,5 +4,6 @@
 pub mod batch;
 pub mod decided;
 mod heads;
+pub mod listed;
 pub mod new_keys;
 mod sorting;

@@ -4,10 +4,10 @@ use commit::commit::commit_batch;
 use header::judge::judge;
 use header::open::open_check;
 use header::options::{Options, bench};
-use header::shape::Judged;
+use header::refusal::{DONE, Refusal, number_of};
 use header::state::HOLDS_THE_LOCK;
 use image::check::full_check;
-use image::lookup::look_up;
+use image::lookup::{Found, look_up};
 use std::io;
 use writing::create::create;
 use writing::state::begin;
@@ -31,7 +31,7 @@ fn small() -> Options {
 
 // Prints what the open check answers of an image.
 fn opened(rt: &impl Print, label: &[u8], image: &[u8]) -> io::Result<()> {
-    let answer = open_check(image, large()).answer;
+    let answer = number_of(&open_check(image, large()));
     print::decimal(rt, label, u64::from(answer))
 }
 
@@ -39,7 +39,7 @@ fn opened(rt: &impl Print, label: &[u8], image: &[u8]) -> io::Result<()> {
 // of it is no image.
 pub fn lengths(rt: &impl Print) -> io::Result<()> {
     let mut buffer = [0u8; 45313];
-    create(&mut buffer, large());
+    let _ = create(&mut buffer, large());
     opened(rt, b"length 45311 answers", &buffer[0..45311])?;
     opened(rt, b"length 45312 answers", &buffer[0..45312])?;
     opened(rt, b"length 45313 answers", &buffer)
@@ -48,8 +48,12 @@ pub fn lengths(rt: &impl Print) -> io::Result<()> {
 // Prints what lookup answers of a key in a fresh image.
 fn looked_up(rt: &impl Print, label: &[u8], key: &[u8]) -> io::Result<()> {
     let mut image = [0u8; 45312];
-    create(&mut image, large());
-    let answer = look_up(&image, large(), key).answer;
+    let _ = create(&mut image, large());
+    let answer = match look_up(&image, large(), key) {
+        Ok(Found { entry: Some(_), .. }) => DONE,
+        Ok(Found { entry: None, .. }) => Refusal::NotPresent.number(),
+        Err(refusal) => refusal.number(),
+    };
     print::decimal(rt, label, u64::from(answer))
 }
 
@@ -70,16 +74,16 @@ fn record(meta: u8, key: u8) -> [u8; 24] {
 // Commits one record, and prints the tombstones that the full check then counts.
 fn tombstones_after(rt: &impl Print, image: &mut [u8; 456], meta: u8, key: u8) -> io::Result<()> {
     let batch = record(meta, key);
-    commit_batch(image, small(), &batch);
-    let checked = full_check(image, small());
-    print::decimal(rt, b"tombstones", checked.tombstones)
+    let _ = commit_batch(image, small(), &batch);
+    let tombstones = full_check(image, small()).map_or(0, |counts| counts.tombstones);
+    print::decimal(rt, b"tombstones", tombstones)
 }
 
 // "B 8: 2 tombstones stay, 3 cause a rebuild."
 pub fn rebuild(rt: &impl Print) -> io::Result<()> {
     let mut image = [0u8; 456];
-    create(&mut image, small());
-    begin(&mut image, small());
+    let _ = create(&mut image, small());
+    let _ = begin(&mut image, small());
     tombstones_after(rt, &mut image, 1, b'a')?;
     tombstones_after(rt, &mut image, 1, b'b')?;
     tombstones_after(rt, &mut image, 1, b'c')?;
@@ -91,16 +95,16 @@ pub fn rebuild(rt: &impl Print) -> io::Result<()> {
 // "Put then delete of a new key in one batch takes no slot."
 pub fn no_slot(rt: &impl Print) -> io::Result<()> {
     let mut image = [0u8; 456];
-    create(&mut image, small());
-    begin(&mut image, small());
+    let _ = create(&mut image, small());
+    let _ = begin(&mut image, small());
     let mut batch = [0u8; 48];
     batch[0] = 1;
     batch[8] = b'a';
     batch[32] = b'a';
-    let answer = commit_batch(&mut image, small(), &batch);
+    let answer = number_of(&commit_batch(&mut image, small(), &batch));
     print::decimal(rt, b"put then delete answers", u64::from(answer))?;
     match judge(&image, small()) {
-        Judged::Fit(s) => print::decimal(rt, b"slots taken", s.slot_highwater as u64),
-        Judged::Refused(number) => print::decimal(rt, b"refused", u64::from(number)),
+        Ok(s) => print::decimal(rt, b"slots taken", s.slot_highwater as u64),
+        Err(refusal) => print::decimal(rt, b"refused", u64::from(refusal.number())),
     }
 }

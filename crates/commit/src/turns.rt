@@ -1,107 +1,85 @@
 // The turn of each record of a batch, by the image, and the bucket for its key where that is new.
 ghost use Rattle.std.specs.Prelude.{◌≡◌, ◌^◌, ◌<◌};
-ghost use Rattle.probing.specs.Counting.{one};
-ghost use Rattle.probing.specs.Report.{free_by};
-ghost use Rattle.header.specs.Shaped.{Shaped};
 ghost use Rattle.image.specs.Lookup.{is_live};
+ghost use Rattle.image.specs.Told.{free_of};
 ghost use Rattle.batch.specs.Batch.{record_count, decides};
-ghost use Rattle.batch.specs.Notes.{Noted, hash_of, turn_of, some_delete};
+ghost use Rattle.batch.specs.Notes.{Noted, Flagged, TurnedBy, turn_of, some_delete};
 ghost use Rattle.applying.specs.Prepared.{kept_place, noted_place};
 
-use batch::batch::{MOST_RECORDS, record_count, record_key, record_meta, some_delete};
-use batch::decided::flag_deciding;
-use batch::new_keys::{LIVE_TURN, NEW_TURN, NO_TURN};
-use header::shape::{Layout, Shape};
-use image::probe::{Probe, Report, free_bucket, probe_hashed};
+use batch::batch::MOST_RECORDS;
+use batch::decided::Hashed;
+use batch::new_keys::Turn;
+use header::shape::Layout;
+use image::probe::{Probe, Report};
+use image::table::Image;
 
-// What is noted of a record: its turn and, where its key is new, the bucket for it.
+// What is noted of a record: its turn and, where its key is new, the bucket for it. A number stands for none, and no Option: the
+// buckets of 1,024 records lie on the stack of a commit, which has no room for twice as much.
 #[derive(Drop)]
 struct Note {
-    turn: u8,
+    turn: Turn,
     place: u32,
 }
 
 // The bucket that a report leaves for a new key; none, for which B stands, where the batch deletes.
 fn kept_place(l: Layout, report: Report, deletes: bool) -> u32
-    requires { (l.bucket_count < 2 ^ 32) × (free_by l.bucket_count report.tombstone report.bucket < 2 ^ 32) }
+    requires { (l.bucket_count < 2 ^ 32) × (free_of report < 2 ^ 32) }
     ensures { result ≡ kept_place l.bucket_count report deletes }
 {
     if deletes {
         return l.bucket_count as u32;
     }
-    free_bucket(l, report) as u32
+    report.free_bucket() as u32
 }
 
 // What is noted of a record whose key is not new: its turn alone.
-fn unplaced(turn: u8) -> Note
+fn unplaced(turn: Turn) -> Note
     ensures { (result.turn ≡ turn) × (result.place ≡ 0) }
 {
     Note { turn, place: 0 }
 }
 
 // The turn of record i, by the flags of those that decide, and the bucket noted for it.
-fn turn_of(
-    image: &[u8],
-    s: Shape,
-    batch: &[u8],
-    hashes: &[u64],
-    flags: &[u8],
-    deletes: bool,
-    i: usize,
-) -> Note
-    requires shaped { Shaped s image.now }
-    requires i_bound { i < record_count s.layout batch.now }
-    requires noted { Noted (hash_of s.layout batch.now) (record_count s.layout batch.now) hashes.now }
-    requires noted_2 { Noted (λ i. one (decides s.layout batch.now i)) (record_count s.layout batch.now) flags.now }
-    requires deletes_value { deletes ≡ some_delete s.layout batch.now }
-    ensures { (result.turn ≡ turn_of s.layout (is_live s image.now) batch.now i) × (result.place ≡ noted_place s image.now batch.now i) }
+fn turn_of(image: &Image, hashed: &Hashed, flags: &[bool], deletes: bool, i: usize) -> Note
+    requires layout { hashed.now.batch.layout ≡ image.now.shape.layout }
+    requires i_bound { i < record_count image.now.shape.layout hashed.now.batch.bytes.now }
+    requires flagged { Flagged (decides image.now.shape.layout hashed.now.batch.bytes.now) (record_count image.now.shape.layout hashed.now.batch.bytes.now) flags.now }
+    requires deletes_value { deletes ≡ some_delete image.now.shape.layout hashed.now.batch.bytes.now }
+    ensures { (result.turn ≡ turn_of image.now.shape.layout (is_live image.now.shape image.now.bytes.now) hashed.now.batch.bytes.now i) × (result.place ≡ noted_place image.now.shape image.now.bytes.now hashed.now.batch.bytes.now i) }
 {
-    if flags[i] != 1 {
-        return unplaced(NO_TURN);
+    if !flags[i] {
+        return unplaced(Turn::Superseded);
     }
-    if record_meta(batch, s.layout, i) != 1 {
-        return unplaced(LIVE_TURN);
+    let record = hashed.batch.record(i);
+    if !record.is_put() {
+        return unplaced(Turn::Live);
     }
-    let report = probe_hashed(image, s, record_key(batch, s.layout, i), hashes[i]);
-    let place = kept_place(s.layout, report, deletes);
-    let end = report.end;
-    match end {
-        Probe::Found { slot, buckets } => unplaced(LIVE_TURN),
-        Probe::Absent { buckets } => Note {
-            turn: NEW_TURN,
-            place,
-        },
-        Probe::Broken => Note {
-            turn: NEW_TURN,
-            place,
+    let report = image.probe_hashed(record.key(), hashed.hashes[i]);
+    match report.end {
+        Probe::Found { .. } => unplaced(Turn::Live),
+        Probe::Absent { .. } | Probe::Broken => Note {
+            turn: Turn::New,
+            place: kept_place(image.shape.layout, report, deletes),
         },
     }
 }
 
 // For each record its turn; the bucket noted for it goes into places, which are all zero before.
 #[inline(never)]
-pub fn take_turns(
-    image: &[u8],
-    s: Shape,
-    batch: &[u8],
-    hashes: &[u64],
-    places: &mut [u32],
-) -> [u8; MOST_RECORDS]
-    requires shaped { Shaped s image.now }
-    requires noted { Noted (hash_of s.layout batch.now) (record_count s.layout batch.now) hashes.now }
-    requires noted_2 { Noted (noted_place s image.now batch.now) 0 places.old }
-    ensures { Noted (turn_of s.layout (is_live s image.now) batch.now) (record_count s.layout batch.now) result × Noted (noted_place s image.now batch.now) (record_count s.layout batch.now) places.new }
+pub fn take_turns(image: &Image, hashed: &Hashed, places: &mut [u32]) -> [Turn; MOST_RECORDS]
+    requires layout { hashed.now.batch.layout ≡ image.now.shape.layout }
+    requires none_noted { Noted (noted_place image.now.shape image.now.bytes.now hashed.now.batch.bytes.now) 0 places.old }
+    ensures turns { TurnedBy image.now.shape.layout (is_live image.now.shape image.now.bytes.now) hashed.now.batch.bytes.now result }
+    ensures places { Noted (noted_place image.now.shape image.now.bytes.now hashed.now.batch.bytes.now) (record_count image.now.shape.layout hashed.now.batch.bytes.now) places.new }
 {
-    let count = record_count(batch, s.layout);
-    let flags = flag_deciding(batch, s.layout, hashes);
-    let deletes = some_delete(batch, s.layout);
-    let mut turns: [u8; MOST_RECORDS] = [0; MOST_RECORDS];
-    let mut i = 0;
-    while i < count {
-        let note = turn_of(image, s, batch, hashes, &flags, deletes, i);
+    let flags = hashed.flag_deciding();
+    let deletes = hashed.batch.some_delete();
+    let mut turns = [Turn::Superseded; MOST_RECORDS];
+    // By index: under a zip of two iter_mut the loop's invariant can name neither list.
+    for i in 0..hashed.batch.record_count() {
+        let note = turn_of(image, hashed, &flags, deletes, i);
         turns[i] = note.turn;
         places[i] = note.place;
-        i += 1;
     }
     turns
 }

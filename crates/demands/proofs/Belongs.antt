@@ -13,10 +13,9 @@ use Rattle.header.specs.declared.options.Options.{Options}
 use Rattle.header.specs.declared.shape.Shape.{Shape}
 use Rattle.header.specs.Answer.{done, invalid_input}
 use Rattle.header.specs.HeaderTest.{header_test, shape_of}
-use Rattle.header.proofs.Fit.{judged_fit, fit_shaped}
-use Rattle.image.specs.declared.lookup.Lookup.{Lookup}
+use Rattle.header.proofs.Fit.{fit_shaped}
 use Rattle.image.specs.Table.{table_of, key_of}
-use Rattle.image.specs.Lookup.{nothing, probe_of, lookup_by, lookup_in, lookup_of, index_by, index_part}
+use Rattle.image.specs.Lookup.{Lookup, nothing, probe_of, lookup_by, lookup_in, lookup_of, index_by, index_part}
 use Rattle.image.proofs.Looked.{found_below}
 use Rattle.demands.specs.Shows.{Shows}
 use Rattle.demands.proofs.Reading.{lookup_reads}
@@ -46,7 +45,7 @@ module _ (o : Options) (image key : List ℕ) (z : header_test o image ≡ 0) wh
   found_right : (n count : ℕ) → probe_of s image key ≡ found n count → Right (lookup_by s image (found n count))
   found_right n count e =
       let below = found_below s image key n count e in
-      let high = (fit_shaped o image s (judged_fit o image z)).highwater in
+      let high = (fit_shaped o image z).highwater in
       rw (found_key n count e) at (slot_shows o image z n (omega arith))
 
   looked_right : (lookup_in s image key).answer ≡ done → Right (lookup_in s image key)

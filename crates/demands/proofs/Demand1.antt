@@ -26,7 +26,7 @@ use Rattle.writing.proofs.Refused.{create_refused, begin_refused, checkpoint_ref
 use Rattle.soundness.specs.Apply.{committed}
 use Rattle.soundness.specs.Commit.{sound_tests, room_tests, further_tests, commit_tests, commit_of}
 use Rattle.host.specs.UserData.{set_user_fields_from}
-use Rattle.host.proofs.Failed.{after_failed}
+use Rattle.header.proofs.After.{after_failed}
 use Rattle.demands.specs.Demand1.{Among, header_numbers, Judges, LeavesAlone, Demand1}
 use Rattle.demands.proofs.Belongs.{belongs}
 use Rattle.demands.proofs.Calls.{calls}

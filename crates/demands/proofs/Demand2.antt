@@ -10,16 +10,15 @@ use native.Mathlib.Omega.{arith}
 use lib.Dec.{T}
 use Rattle.header.specs.declared.options.Options.{Options}
 use Rattle.header.specs.declared.open.UserFields.{UserFields}
-use Rattle.header.specs.declared.shape.Judged.TheVariants.{Fit}
 use Rattle.header.specs.Fields as F
 use Rattle.header.specs.Fields.{value}
 use Rattle.header.specs.FirstOf.{first_of}
 use Rattle.header.specs.State.{CLEAN, with_role}
-use Rattle.header.specs.HeaderTest.{header_tests, header_test, shape_of, judged, test1, test2, test3, test4, test5, test6, test7, test8, test9, test10, test11, test12}
+use Rattle.header.specs.HeaderTest.{header_tests, header_test, shape_of, test1, test2, test3, test4, test5, test6, test7, test8, test9, test10, test11, test12}
 use Rattle.header.specs.Answer.{done}
 use Rattle.header.specs.Open.{open_of}
 use Rattle.header.proofs.Firsts.{named}
-use Rattle.header.proofs.Fit.{judged_fit, fit_key_size}
+use Rattle.header.proofs.Fit.{fit_key_size}
 use Rattle.image.specs.Lookup.{lookup_of, index_part}
 use Rattle.image.proofs.FullCheck.{Whole, passes_whole, whole_passes, full_check_law}
 use Rattle.listing.specs.Scan.{matches, list, scan_of}
@@ -89,9 +88,6 @@ module _ {o : Options} {image : List ℕ} {m : Map} {fields : UserFields} (h : H
     mapped : (key : List ℕ) → map_of (shape_of image) image key ≡ m key
     mapped key = ap (λ (f : Map). f key) h.map
 
-    fit : judged o' image ≡ Fit (shape_of image)
-    fit = judged_fit o' image z
-
     -- a key of the map is looked up, and the slot that is then given shows it
     looked : (key : List ℕ) (e : Entry) → m key ≡ some e
         → ((lookup_of o' image key).answer ≡ done) × ((lookup_of o' image key).revision ≡ e.revision) × (index_part o' image key ≡ e.index)
@@ -113,7 +109,7 @@ module _ {o : Options} {image : List ℕ} {m : Map} {fields : UserFields} (h : H
         record {
           has = looked;
           lacks =
-              λ key size q. (lookup_none o' image key z (size ∙ sym (fit_key_size o' image (shape_of image) fit)) whole.sound (mapped key ∙ q)).0;
+              λ key size q. (lookup_none o' image key z (size ∙ sym (fit_key_size o' image z)) whole.sound (mapped key ∙ q)).0;
           scans = λ limit numbers roomy. rw (scan_list o' image z 0 limit numbers) (listed (λ key. true) limit numbers roomy);
           matches = λ offset bits pattern right limit numbers roomy.
               rw (match_list o' image z offset bits pattern right 0 limit numbers) (listed (agrees offset (bits_compared bits pattern) pattern) limit numbers roomy);

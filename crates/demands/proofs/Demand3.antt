@@ -17,14 +17,12 @@ use Rattle.probing.proofs.Reading.Bound.{count_bound}
 use Rattle.probing.proofs.SumLaw.{sum_by_homes}
 use Rattle.probing.proofs.Homes.{sum_of_homes_lem}
 use Rattle.header.specs.declared.options.Options.{Options}
-use Rattle.header.specs.declared.shape.Judged.TheVariants.{Fit}
 use Rattle.header.specs.Answer.{done, not_present}
-use Rattle.header.specs.HeaderTest.{shape_of, judged}
-use Rattle.header.proofs.Fit.{judged_fit, fit_shaped, fit_key_size}
-use Rattle.image.specs.declared.check.Checked.{Checked}
+use Rattle.header.specs.HeaderTest.{shape_of}
+use Rattle.header.proofs.Fit.{fit_shaped, fit_key_size}
 use Rattle.image.specs.Table.{table_of}
 use Rattle.image.specs.Lookup.{probe_of, lookup_by, lookup_of}
-use Rattle.image.specs.Check.{check_of}
+use Rattle.image.specs.Check.{Checked, check_of}
 use Rattle.image.proofs.Places.{key_length}
 use Rattle.image.proofs.Looked.{looked_by, looked_fit}
 use Rattle.image.proofs.FullCheck.{Whole, full_check_law, whole_told, full_check_sum}
@@ -40,11 +38,8 @@ module _ (o : Options) (image : List ℕ) (passed : (check_of o image).answer �
   whole : Whole o image
   whole = (full_check_law o image).0 passed
 
-  fit : judged o image ≡ Fit (shape_of image)
-  fit = judged_fit o image whole.header
-
   size : (shape_of image).layout.key_size ≡ o.key_size
-  size = fit_key_size o image (shape_of image) fit
+  size = fit_key_size o image whole.header
 
   -- lookup of a key of the right length reports what the probe rule counts
   reports : (key : List ℕ) → length key ≡ o.key_size → Reports o image key (count_of (probe (table_in image) key))
@@ -52,7 +47,7 @@ module _ (o : Options) (image : List ℕ) (passed : (check_of o image).answer �
   reports key e = go (probe (table_in image) key) refl
     where
       looked : (p : Probed) → probe (table_in image) key ≡ p → lookup_of o image key ≡ lookup_by (shape_of image) image p
-      looked p q = sym (looked_by (shape_of image) image key (e ∙ sym size) p q ∙ looked_fit o image key (shape_of image) fit)
+      looked p q = sym (looked_by (shape_of image) image key (e ∙ sym size) p q ∙ looked_fit o image key (sym whole.header))
 
       go : (p : Probed) → probe (table_in image) key ≡ p → Reports o image key (count_of p)
       go (found n count) q = rw (looked _ q) (inl refl, refl)
@@ -75,7 +70,7 @@ module _ (o : Options) (image : List ℕ) (passed : (check_of o image).answer �
     where
       sized : (n : ℕ) → n < (shape_of image).slot_highwater → length ((table_in image).key n) ≡ o.key_size
       sized n below =
-          let shaped = fit_shaped o image (shape_of image) fit in
+          let shaped = fit_shaped o image whole.header in
           key_length (shape_of image).layout image shaped.laid n (omega (arith, shaped.highwater)) ∙ size
 
   -- the full check returns that sum

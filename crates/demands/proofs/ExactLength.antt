@@ -19,11 +19,10 @@ use Rattle.header.specs.HeaderTest.{test1, create_test1, test2, test3, test4, te
 use Rattle.header.specs.Open.{open_of}
 use Rattle.header.specs.Sizes.{total_size}
 use Rattle.header.proofs.Firsts.{first_none, first_stops}
-use Rattle.header.proofs.Fit.{judged_fit, fit_total}
+use Rattle.header.proofs.Fit.{fit_total}
 use Rattle.header.proofs.PassedTests.{length_passed, create_role}
 use Rattle.header.proofs.Stages.{staged, passes}
-use Rattle.image.specs.declared.lookup.Lookup.{Lookup}
-use Rattle.image.specs.Lookup.{nothing, lookup_in, lookup_of, index_part}
+use Rattle.image.specs.Lookup.{Lookup, nothing, lookup_in, lookup_of, index_part}
 use Rattle.image.specs.Check.{check_of}
 use Rattle.listing.specs.Scan.{scan_of}
 use Rattle.listing.specs.Match.{match_of}
@@ -32,12 +31,12 @@ use Rattle.writing.specs.Create.{create_tests, fresh, create_of}
 use Rattle.writing.specs.State.{begin_of, checkpoint_of, invalidate_of}
 use Rattle.writing.proofs.Answers.{answers}
 use Rattle.writing.proofs.Fresh.{fresh_header}
-use Rattle.writing.proofs.Making.{enough}
+use Rattle.writing.proofs.Making.{by_length}
 use Rattle.writing.proofs.OneField.{in_header}
 use Rattle.writing.proofs.Tests.{past}
 use Rattle.writing.proofs.Tests as tests
 use Rattle.host.specs.UserData.{user_data_of}
-use Rattle.host.proofs.Failed.{after_failed}
+use Rattle.header.proofs.After.{after_failed}
 use Rattle.demands.specs.Demand1.{Judges, LeavesAlone}
 use Rattle.demands.specs.Before.{nine}
 use Rattle.demands.specs.ExactLength.{number, OtherLength, unchanged, ExactLength}
@@ -48,7 +47,7 @@ use Rattle.demands.proofs.Demand1.{demand1}
 use Rattle.demands.proofs.HistoryInvariant.{writer_header, held}
 
 exact : (o : Options) (image : List ℕ) → header_test o image ≡ 0 → length image ≡ image_total image
-exact o image z = fit_total o image (shape_of image) (judged_fit o image z)
+exact o image z = fit_total o image z
 
 -- the header test, with the tests from the tenth on apart
 apart : (o : Options) (image : List ℕ) → header_test o image ≡ first_of (nine o image ++ (test10 image ++ (test11 image ++ test12 o image)))
@@ -165,9 +164,11 @@ module _ (o : Options) (image : List ℕ) (n : ℕ) (z : header_test o image ≡
           ∙ none_of_nine o image z)
 
 accepts : (o : Options) (buffer : List ℕ) → first_of (create_test1 o) ≡ 0 → total_size o ≤ length buffer → (create_of o buffer).answer ≡ 0
-unfolding create_of
+unfolding create_of first_of
 accepts o buffer first long =
-    answers buffer (fresh o ++ drop (total_size o) buffer) (first_of (create_tests o buffer)) ∙ enough o buffer first refl long
+    answers buffer (fresh o ++ drop (total_size o) buffer) (first_of (create_tests o buffer))
+    ∙ by_length o buffer (sym first) refl
+    ∙ rw (le-ltb (length buffer) (total_size o) long) refl
 
 -- a longer buffer
 module _ (o : Options) (buffer more : List ℕ) (size : length buffer ≡ total_size o) where

@@ -21,7 +21,7 @@ use Rattle.header.specs.HeaderTest.{power_of_two, test1, create_test1, test2, te
 use Rattle.header.specs.Open.{open_of}
 use Rattle.header.specs.Sizes.{most_slot_capacity, most_bucket_count, sizes_to_open, sizes_to_create, capacity_fits, bucket_count, total_size}
 use Rattle.header.proofs.Firsts.{first_none}
-use Rattle.header.proofs.Fit.{judged_fit, fit_capacity, fit_given, fit_powered, fit_total}
+use Rattle.header.proofs.Fit.{fit_capacity, fit_given, fit_powered, fit_total}
 use Rattle.header.proofs.PassedTests.{length_passed, counters_passed, create_role}
 use Rattle.header.proofs.Power.{power_true, true_power}
 use Rattle.header.proofs.Stages.{passes}
@@ -47,7 +47,7 @@ use Rattle.soundness.specs.Commit.{commit_tests, commit_of}
 use Rattle.soundness.proofs.Accepted.{accepted_facts}
 use Rattle.soundness.proofs.Committed.{shape_after, accepted_commit}
 use Rattle.host.specs.UserData.{user_data_of, set_user_fields_from}
-use Rattle.host.proofs.Failed.{after_failed}
+use Rattle.header.proofs.After.{after_failed}
 use Rattle.maps.specs.Map.{applied}
 use Rattle.maps.proofs.MapLaw.{commit_map}
 use Rattle.demands.specs.Before.{seven, eight}
@@ -157,7 +157,7 @@ sizing o buffer version a =
     let first = create_allowed o buffer a in
     let z = fresh_header o first version o.role (create_role o first) in
     let total : image_total (fresh o) ≡ total_size o =
-    sym (fit_total o (fresh o) (shape_of (fresh o)) (judged_fit o (fresh o) z)) ∙ fresh_length o in
+    sym (fit_total o (fresh o) z) ∙ fresh_length o in
     rw (fresh_in_lem o buffer a, z, fresh_value o first version F.slot_capacity_field tt, fresh_value o first version F.bucket_count_field tt, total) refl
 
 create_zero : (o : Options) (buffer : List ℕ) → create_of (with_capacity o 0) buffer ≡ written invalid_input buffer
@@ -208,15 +208,15 @@ module _ (image : List ℕ) where
 module _ (o : Options) (image : List ℕ) (z : header_test o image ≡ 0) where
   within : Within image
   unfolding shape_of layout_of
-  within = fit_capacity o image (shape_of image) (judged_fit o image z)
+  within = fit_capacity o image z
 
   given : (o.slot_capacity ≡ 0 → ⊥) → capacity_in image ≡ o.slot_capacity
   unfolding shape_of layout_of
-  given = fit_given o image (shape_of image) (judged_fit o image z)
+  given = fit_given o image z
 
   power : PowerOfTwo (buckets_in image) × (capacity_in image < buckets_in image) × (buckets_in image ≤ most_bucket_count)
   power =
-      let p = fit_powered o image (shape_of image) (judged_fit o image z) in
+      let p = fit_powered o image z in
       (power_true (buckets_in image) p.power, p.above, p.most)
 
   never_exceed : (value image F.bucket_used + value image F.bucket_tombstones ≤ value image F.slot_highwater)

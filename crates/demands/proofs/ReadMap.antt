@@ -11,7 +11,7 @@ use Rattle.probing.specs.Sound.{Sound}
 use Rattle.header.specs.declared.options.Options.{Options}
 use Rattle.header.specs.declared.shape.Shape.{Shape}
 use Rattle.header.specs.HeaderTest.{header_test, shape_of}
-use Rattle.header.proofs.Fit.{judged_fit, fit_key_size, fit_shaped}
+use Rattle.header.proofs.Fit.{fit_key_size, fit_shaped}
 use Rattle.image.specs.Table.{table_of}
 use Rattle.image.proofs.Places.{key_length}
 use Rattle.maps.specs.Map.{Entry, map_of}
@@ -28,14 +28,14 @@ module _ (o : Options) (image : List ℕ) (z : header_test o image ≡ 0) (sound
   pub key_sized : (key : List ℕ) (e : Entry) → map_of s image key ≡ some e → length key ≡ s.layout.key_size
   key_sized key e q =
       let has = (some_iff s image sound key e).0 q in
-      let shaped = fit_shaped o image s (judged_fit o image z) in
+      let shaped = fit_shaped o image z in
       ap length (sym has.1.key) ∙ key_length s.layout image shaped.laid has.0 (omega (arith, has.1.below, shaped.highwater))
 
   pub read_map : read_by o image ≡ map_of s image
   read_map = fun_ext (λ key. go key (map_of s image key) refl)
     where
       same_size : s.layout.key_size ≡ o.key_size
-      same_size = fit_key_size o image s (judged_fit o image z)
+      same_size = fit_key_size o image z
 
       lacks : (key : List ℕ) → map_of s image key ≡ none → Dec (length key ≡ s.layout.key_size) → read_by o image key ≡ map_of s image key
       lacks key q (yes size) = rw ((lookup_none o image key z size sound q).0, q) refl

@@ -10,19 +10,16 @@ use lib.IntN.{pos}
 use lib.ListN.{length}
 use Rattle.probing.specs.Probe.{Probed, found, absent, broken}
 use Rattle.header.specs.declared.options.Options.{Options}
-use Rattle.header.specs.declared.open.Opened.{Opened}
 use Rattle.header.specs.declared.shape.Shape.{Shape}
 use Rattle.header.specs.Answer.{needs_rebuild, invalid_input, not_present, too_short}
 use Rattle.header.specs.HeaderTest.{header_test, shape_of, after_test}
-use Rattle.header.specs.Open.{no_fields, open_of}
-use Rattle.image.specs.declared.lookup.Lookup.{Lookup}
-use Rattle.image.specs.declared.check.Checked.{Checked}
-use Rattle.image.specs.Lookup.{nothing, probe_of, lookup_by, lookup_in, lookup_of}
-use Rattle.image.specs.Check.{failed, passes, check_in, check_of}
+use Rattle.header.specs.Open.{Opened, no_fields, open_of}
+use Rattle.image.specs.Lookup.{Lookup, nothing, probe_of, lookup_by, lookup_in, lookup_of}
+use Rattle.image.specs.Check.{Checked, failed, passes, check_in, check_of}
 use Rattle.listing.specs.Scan.{Outcome, refused, chosen, write, list, scan_of}
 use Rattle.listing.specs.Match.{bits_compared, pattern_wrong, match_in, match_of}
 use Rattle.host.specs.UserData.{Filled, filled, user_data_of}
-use Rattle.host.proofs.Failed.{after_failed}
+use Rattle.header.proofs.After.{after_failed}
 use Rattle.demands.specs.Demand1.{Among, header_numbers, Refuses, Judges}
 use Rattle.demands.proofs.Numbered.{has, among, header_numbered}
 

@@ -16,7 +16,7 @@ use Rattle.header.specs.declared.shape.Shape.{Shape}
 use Rattle.header.specs.Fields as F
 use Rattle.header.specs.Fields.{value}
 use Rattle.header.specs.HeaderTest.{header_test, layout_of, shape_of}
-use Rattle.header.proofs.Fit.{judged_fit, fit_shaped}
+use Rattle.header.proofs.Fit.{fit_shaped}
 use Rattle.image.specs.Table.{meta_of, key_of, table_of}
 use Rattle.listing.specs.Scan.{matches, list}
 use Rattle.listing.proofs.Passing.{passing_le}
@@ -42,10 +42,10 @@ module _ (o : Options) (image : List ℕ) (z : header_test o image ≡ 0) (wante
   -- there is room for them where there is for every slot
   pub few : length slots ≤ value image F.slot_capacity_field
   unfolding matches shape_of layout_of
-  few = omega (arith, passing_le picked s.slot_highwater, (fit_shaped o image s (judged_fit o image z)).highwater)
+  few = omega (arith, passing_le picked s.slot_highwater, (fit_shaped o image z).highwater)
 
   inside : (n : ℕ) → n < s.slot_highwater → n < s.layout.slot_capacity
-  inside n h = omega (arith, (fit_shaped o image s (judged_fit o image z)).highwater)
+  inside n h = omega (arith, (fit_shaped o image z).highwater)
 
   module _ (sound : Sound (table_of s image)) (limit : ℕ) (numbers : List ℕ) (roomy : Roomy image limit numbers) where
     long : length slots ≤ length numbers

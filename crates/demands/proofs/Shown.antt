@@ -12,7 +12,7 @@ use Rattle.header.specs.declared.shape.Shape.{Shape}
 use Rattle.header.specs.HeaderTest.{header_test, layout_of, shape_of}
 use Rattle.header.specs.Shaped.{Shaped}
 use Rattle.header.specs.Sizes.{most_slot_capacity}
-use Rattle.header.proofs.Fit.{judged_fit, fit_shaped, fit_key_size, fit_index_size, fit_capacity, fit_given}
+use Rattle.header.proofs.Fit.{fit_shaped, fit_key_size, fit_index_size, fit_capacity, fit_given}
 use Rattle.header.proofs.Stages.{passes}
 use Rattle.image.specs.Table.{slot_at, key_at, revision_at, index_at, key_of, revision_of, index_of}
 use Rattle.image.proofs.Places.{revision_in_slot, key_inside, index_inside}
@@ -25,13 +25,13 @@ module _ (o : Options) (image : List ℕ) (z : header_test o image ≡ 0) where
   s = shape_of image
 
   shaped : Shaped s image
-  shaped = fit_shaped o image s (judged_fit o image z)
+  shaped = fit_shaped o image z
 
   pub same_key_size : s.layout.key_size ≡ o.key_size
-  same_key_size = fit_key_size o image s (judged_fit o image z)
+  same_key_size = fit_key_size o image z
 
   same_index_size : s.layout.index_size ≡ o.index_size
-  same_index_size = fit_index_size o image s (judged_fit o image z)
+  same_index_size = fit_index_size o image z
 
   -- a slot of the image is one that there can be under the options
   can_be : (n : ℕ) → n < s.layout.slot_capacity → n < slots_for o.slot_capacity
@@ -39,8 +39,8 @@ module _ (o : Options) (image : List ℕ) (z : header_test o image ≡ 0) where
   can_be n inside = go o.slot_capacity refl
     where
       go : (option : ℕ) → o.slot_capacity ≡ option → n < cond (eqb option 0) most_slot_capacity option
-      go zero e = omega (arith, (fit_capacity o image s (judged_fit o image z)).1)
-      go (suc m) e = rw (ne_eqb (suc m) 0 (λ z. omega arith)) (omega (arith, e, fit_given o image s (judged_fit o image z) (λ z. omega arith)))
+      go zero e = omega (arith, (fit_capacity o image z).1)
+      go (suc m) e = rw (ne_eqb (suc m) 0 (λ z. omega arith)) (omega (arith, e, fit_given o image z (λ z. omega arith)))
 
   module _ (n : ℕ) (inside : n < s.layout.slot_capacity) where
     given : (place : ℕ) → place_in o n place ≡ place

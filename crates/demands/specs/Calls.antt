@@ -1,11 +1,12 @@
 -- The library's calls: of each, the definition that its result and every lent byte afterwards follow from.
 -- Assumes nothing.
 use Rattle.numbers.specs.Age.{age_of}
-use Rattle.header.specs.Open.{open_of}
+use Rattle.header.specs.Answer.{answer}
+use Rattle.header.specs.Open.{opened, open_of}
 use Rattle.header.specs.Extent.{extent_of}
-use Rattle.image.specs.Lookup.{lookup_of, index_part}
-use Rattle.image.specs.Check.{check_of}
-use Rattle.listing.specs.Scan.{scan_of}
+use Rattle.image.specs.Lookup.{looked, lookup_of, index_part}
+use Rattle.image.specs.Check.{checked, check_of}
+use Rattle.listing.specs.Scan.{told, scan_of}
 use Rattle.listing.specs.Match.{match_of}
 use Rattle.writing.specs.Create.{create_of}
 use Rattle.writing.specs.State.{begin_of, checkpoint_of, invalidate_of, set_user_fields_of}
@@ -44,12 +45,12 @@ pub record Calls : Type 2 where
   -- "Create."
   pub create :
       Owes create_ended create.name create.code
-      (λ κ x e. written x (arg1 e).now)
+      (λ κ x e. written (answer x) (arg1 e).now)
       (λ κ a. create_of (arg2 a) (arg1 a).now)
   -- "Open check is this test alone; with 0 it hands out the user fields."
   pub open_check :
       Owes open_check_ended open_check.name open_check.code
-      (λ κ x e. x)
+      (λ κ x e. opened x)
       (λ κ a. open_of (arg2 a) (arg1 a).now)
   -- "The judged header therefore carries capacity, B and offsets to every later call." (CR 10)
   pub extent_of_call :
@@ -59,32 +60,32 @@ pub record Calls : Type 2 where
   -- "Begin"
   pub begin :
       Owes begin_ended begin.name begin.code
-      (λ κ x e. written x (arg1 e).now)
+      (λ κ x e. written (answer x) (arg1 e).now)
       (λ κ a. begin_of (arg2 a) (arg1 a).now)
   -- "Commit"
   pub commit :
       Owes commit_batch_ended commit_batch.name commit_batch.code
-      (λ κ x e. written x (arg1 e).now)
+      (λ κ x e. written (answer x) (arg1 e).now)
       (λ κ a. commit_of (arg2 a) (arg1 a).now (arg3 a).now)
   -- "Checkpoint"
   pub checkpoint :
       Owes checkpoint_ended checkpoint.name checkpoint.code
-      (λ κ x e. written x (arg1 e).now)
+      (λ κ x e. written (answer x) (arg1 e).now)
       (λ κ a. checkpoint_of (arg2 a) (arg1 a).now)
   -- "Invalidate"
   pub invalidate :
       Owes invalidate_ended invalidate.name invalidate.code
-      (λ κ x e. written x (arg1 e).now)
+      (λ κ x e. written (answer x) (arg1 e).now)
       (λ κ a. invalidate_of (arg2 a) (arg1 a).now)
   -- "Set user fields"
   pub set_user_fields :
       Owes set_user_fields_ended set_user_fields.name set_user_fields.code
-      (λ κ x e. written x (arg1 e).now)
+      (λ κ x e. written (answer x) (arg1 e).now)
       (λ κ a. set_user_fields_of (arg2 a) (arg1 a).now (arg3 a))
   -- "Lookup."
   pub lookup :
       Owes look_up_ended look_up.name look_up.code
-      (λ κ x e. x)
+      (λ κ x e. looked x)
       (λ κ a. lookup_of (arg2 a) (arg1 a).now (arg3 a).now)
   -- "the index bytes, which are the caller's own bytes in the image and no copy"
   pub index_part_call :
@@ -94,17 +95,17 @@ pub record Calls : Type 2 where
   -- "Scan"
   pub scan :
       Owes scan_ended scan.name scan.code
-      (λ κ x e. outcome x (arg5 e).now)
+      (λ κ x e. outcome (told x) (arg5 e).now)
       (λ κ a. scan_of (arg2 a) (arg1 a).now (arg3 a) (arg4 a) (arg5 a).now)
   -- "Match"
   pub match :
       Owes match_bits_ended match_bits.name match_bits.code
-      (λ κ x e. outcome x (arg8 e).now)
+      (λ κ x e. outcome (told x) (arg8 e).now)
       (λ κ a. match_of (arg2 a) (arg1 a).now (arg3 a) (arg4 a) (arg5 a).now (arg6 a) (arg7 a) (arg8 a).now)
   -- "Full check."
   pub full_check :
       Owes full_check_ended full_check.name full_check.code
-      (λ κ x e. x)
+      (λ κ x e. checked x)
       (λ κ a. check_of (arg2 a) (arg1 a).now)
   -- "Revision age."
   pub revision_age :

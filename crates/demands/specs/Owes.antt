@@ -11,8 +11,7 @@ use denote.Triple.Spec.{Meets}
 use denote.Triple.Clauses.{Ended, AtExit, closing}
 use borrow.Fn.World.{World}
 use Rattle.header.specs.declared.options.Options.{Options}
-use Rattle.listing.specs.declared.listed.Listed.{Listed}
-use Rattle.listing.specs.Scan.{Outcome}
+use Rattle.listing.specs.Scan.{Listed, Outcome}
 use Rattle.writing.specs.Write.{Written}
 use Rattle.host.specs.Options.{options_of}
 

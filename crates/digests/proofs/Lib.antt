@@ -1,9 +1,7 @@
-pub mod Arms
 pub mod Header
 pub mod Images
 pub mod Linear
 pub mod Mixed
 pub mod Pieces
 pub mod Powers
-pub mod Prime
 pub mod Xor

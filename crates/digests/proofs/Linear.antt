@@ -4,7 +4,7 @@ use Rattle.std.proofs.Common.{◌≡◌, ℕ, zero, suc, ◌+◌, ◌*◌, ◌/�
 use native.Mathlib.Nat.{add-mod, two-pow-succ}
 use lib.Bits.{bit_xor, xor_comm, xor_zero_r, xor_self, xor_lt, shifted_half, shifted_even}
 use Rattle.digests.specs.Crc.{crc_bit, crc_bits}
-use Rattle.digests.proofs.Xor.{xor_assoc, xor_digit, xor_half, xor_pairs, xor_split}
+use Rattle.digests.proofs.Xor.{xor_digit, xor_half, xor_pairs, xor_split}
 
 -- p where the digit is 1
 abbrev pick : ℕ → ℕ → ℕ
@@ -100,7 +100,3 @@ in_parts n m x e f = rw (e, f) (sym (bits_split n m x))
 -- by its low digits, where it has no others
 pub low_alone : (n m x : ℕ) {p : ℕ} → x < 2 ^ n → p ≡ crc_bits m (x % 2 ^ n) → p ≡ crc_bits m x
 low_alone n m x h e = e ∙ ap (crc_bits m) (mod-eq_of_lt h)
-
--- a word by its halves, the high one in two digits
-pub halves : (m x q r : ℕ) {p : ℕ} → p ≡ crc_bits (32 + m) (x % 2 ^ 32) → bit_xor q r ≡ crc_bits m (x / 2 ^ 32) → bit_xor (bit_xor p q) r ≡ crc_bits (32 + m) x
-halves m x q r {p} e f = xor_assoc p q r ∙ in_parts 32 m x e f

@@ -3,6 +3,7 @@
 use Rattle.std.proofs.Common.{◌≡◌, ℕ, zero, suc, ◌+◌, ◌*◌, ◌/◌, ◌%◌, ◌^◌, ◌<◌, ◌≤◌, Bool, true, false, ◌&&◌, eqb, List, [], ◌∷◌, ◌++◌, length, get_or, drop, replicate, sym, refl, ap, ◌∙◌, true≢false, mul_comm, add_comm, add-one, arith, take-append-drop, drop_of_length-le, drop-cons, drop-drop, pow-add, eqb-true}
 use native.Mathlib.Nat.{div-eq_of_lt, pow-succ'}
 use lib.Bits.{bit_xor, xor_comm, xor_zero_r, xor_shr, xor_shifted}
+use Rattle.std.specs.Int.Bits.{xor_assoc}
 use Rattle.numbers.specs.Bytes.{Bytes, part, word, all_zero}
 use Rattle.numbers.proofs.Bytes.{part_bytes, word_bound}
 use Rattle.numbers.proofs.Put.{length_part, part_add}
@@ -11,7 +12,6 @@ use Rattle.numbers.proofs.Zeros.{word_zeros}
 use Rattle.digests.specs.Crc.{crc_bits, crc_from}
 use Rattle.digests.specs.Fnv.{fnv_from}
 use Rattle.digests.proofs.Linear.{bits_xor, bits_add, bits_zero, bits_shift, bits_down, in_parts}
-use Rattle.digests.proofs.Xor.{xor_assoc}
 
 -- a CRC in two pieces
 pub crc_append : (c : ℕ) (a b : List ℕ) → crc_from c (a ++ b) ≡ crc_from (crc_from c a) b

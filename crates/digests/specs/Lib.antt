@@ -1,3 +1,4 @@
+pub mod Columns
 pub mod Crc
 pub mod Fnv
 pub mod Front

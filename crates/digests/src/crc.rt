@@ -1,45 +1,42 @@
 // CRC32-C (Castagnoli), a word a step, and the header's CRC.
-ghost use Rattle.std.specs.Prelude.{◌≡◌, ◌≤◌, [], ◌∷◌, length, drop};
+ghost use Rattle.std.specs.Prelude.{◌≡◌, ◌≤◌, [], ◌∷◌, length};
 ghost use Rattle.numbers.specs.Bytes.{part};
 ghost use Rattle.digests.specs.Crc.{crc_from, crc32c, header_crc};
 
 use crate::bits::{bits_8, bits_64, bits_512};
 use crate::front::front;
 use numbers::parts::all_zero;
-use numbers::words::{u64_at, wide};
+use numbers::words::u64_at;
 
 // The state after one more byte.
 fn step(c: u32, b: u8) -> u32
     ensures { result ≡ crc_from c (b ∷ []) }
 {
-    bits_8(((c as u64) ^ wide(b)) % 256) ^ (c / 256)
+    bits_8((u64::from(c) ^ u64::from(b)) % 256) ^ (c / 256)
 }
 
-// The state after the bytes of a slice from an offset on.
-fn after_bytes(c: u32, s: &[u8], from: usize) -> u32
-    ensures { result ≡ crc_from c (drop from s.now) }
+// The state after the bytes of a slice, one by one.
+fn after_bytes(c: u32, s: &[u8]) -> u32
+    ensures { result ≡ crc_from c s.now }
 {
     let mut state = c;
-    let mut i = from;
-    while i < s.len() {
-        state = step(state, s[i]);
-        i += 1;
+    for b in s {
+        state = step(state, *b);
     }
     state
 }
 
-// The state after the bytes of a slice.
+// The state after the bytes of a slice, a word a step as far as there are whole ones. By index: `chunks_exact` is no plainer here, as what
+// it leaves over has to be taken from it before the loop.
 fn after(c: u32, s: &[u8]) -> u32
     ensures { result ≡ crc_from c s.now }
 {
     let words = s.len() / 8;
     let mut state = c;
-    let mut n = 0;
-    while n < words {
-        state = bits_64((state as u64) ^ u64_at(s, 8 * n));
-        n += 1;
+    for n in 0..words {
+        state = bits_64(u64::from(state) ^ u64_at(s, 8 * n));
     }
-    after_bytes(state, s, 8 * words)
+    after_bytes(state, &s[8 * words..])
 }
 
 // The CRC of a slice.
@@ -59,7 +56,7 @@ fn rest(image: &[u8]) -> u32
     }
     let state = after(0, &image[0x78..0xC0]);
     if all_zero(&image[0xC0..0x100]) {
-        return bits_512(state as u64);
+        return bits_512(u64::from(state));
     }
     after(state, &image[0xC0..0x100])
 }

@@ -2,6 +2,7 @@
 #![tactic(auto)]
 
 mod bits;
+mod columns;
 pub mod crc;
 mod digits;
 pub mod fnv;

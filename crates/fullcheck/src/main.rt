@@ -3,28 +3,54 @@
 
 ghost use Rattle.std.specs.Prelude.{◌≡◌, ◌<◌, ◌≤◌, length, take, IfOk};
 ghost use Rattle.std.specs.Io.KnownBytes.{Consumes, IsAtEnd};
-ghost use Rattle.fullcheck.specs.Program.{program_of};
+ghost use Rattle.header.specs.Answer.{number};
+ghost use Rattle.image.specs.Check.{failed};
+ghost use Rattle.fullcheck.specs.Program.{printed, program_of};
 
-use header::answer::INVALID_INPUT;
 use header::options::bench;
+use header::refusal::{DONE, Refusal};
 use header::state::NO_WRITER_KNOWN;
-use image::check::{Checked, full_check};
+use image::check::full_check;
 use std::io;
 use std::io::Read;
 
-// The full check of the image; 7 where the input was longer than the program holds.
-fn checked(image: &[u8], longer: bool) -> Checked
-    ensures { result ≡ program_of image.now longer }
+// The numbers that are printed.
+#[derive(Clone, Copy)]
+struct Numbers {
+    answer: u32,
+    live: u64,
+    tombstones: u64,
+    probes: u64,
+}
+
+// Those of a refusal: all but its own are 0.
+fn refused(refusal: Refusal) -> Numbers
+    ensures { printed result ≡ failed (number refusal) }
+{
+    Numbers {
+        answer: refusal.number(),
+        live: 0,
+        tombstones: 0,
+        probes: 0,
+    }
+}
+
+// Those of the full check of the image; 7 where the input was longer than the program holds.
+fn checked(image: &[u8], longer: bool) -> Numbers
+    ensures { printed result ≡ program_of image.now longer }
 {
     if longer {
-        return Checked {
-            answer: INVALID_INPUT,
-            live: 0,
-            tombstones: 0,
-            probes: 0,
-        };
+        return refused(Refusal::InvalidInput);
     }
-    full_check(image, bench(NO_WRITER_KNOWN))
+    match full_check(image, bench(NO_WRITER_KNOWN)) {
+        Ok(counts) => Numbers {
+            answer: DONE,
+            live: counts.live,
+            tombstones: counts.tombstones,
+            probes: counts.probes,
+        },
+        Err(refusal) => refused(refusal),
+    }
 }
 
 // Reads until the buffer is full or the input ends, and returns how many bytes it put at the buffer's start.
@@ -56,10 +82,10 @@ fn main(rt: HostRuntime) -> io::Result<()> {
     let length = read_full(&mut input, &mut image)?;
     let mut more = [0u8; 1];
     let longer = 0 < read_full(&mut input, &mut more)?;
-    let result = checked(&image[..length], longer);
-    print(&rt, b"answer ", u64::from(result.answer))?;
-    print(&rt, b" live ", result.live)?;
-    print(&rt, b" tombstones ", result.tombstones)?;
-    print(&rt, b" probes ", result.probes)?;
+    let numbers = checked(&image[..length], longer);
+    print(&rt, b"answer ", u64::from(numbers.answer))?;
+    print(&rt, b" live ", numbers.live)?;
+    print(&rt, b" tombstones ", numbers.tombstones)?;
+    print(&rt, b" probes ", numbers.probes)?;
     rt.write_all(b"\n")
 }

@@ -1,22 +1,34 @@
--- What a call that makes the header test first goes on to, by the judgement.
+-- What a call that makes tests first goes on to, by their number.
 -- Assumes nothing.
-use Prim.Native.Nat.{ℕ, zero, suc, ◌<◌}
+use Prim.Native.Nat.{ℕ, zero, suc}
 use mathlib.Core.Path.{◌≡◌, refl}
-use mathlib.Core.List.{List}
-use native.Mathlib.Omega.{arith}
-use Rattle.header.specs.declared.options.Options.{Options}
-use Rattle.header.specs.declared.shape.Shape.{Shape}
-use Rattle.header.specs.declared.shape.Judged.TheVariants.{Fit, Refused}
-use Rattle.header.specs.HeaderTest.{header_test, judged, after_test}
-use Rattle.header.proofs.Fit.{fit_number, refused_number}
+use Rattle.header.specs.declared.refusal.Refusal.{Refusal}
+use Rattle.header.specs.declared.refusal.Refusal.TheVariants.{NeedsRebuild, Incompatible, Invalidated, Busy, Full, OutOfOrder, InvalidInput, NotPresent, CreateIt, TooShort}
+use Rattle.header.specs.Answer.{done, number}
+use Rattle.header.specs.HeaderTest.{after_test}
 
-module _ {A : Type 0} (o : Options) (image : List ℕ) (go : A) (refuse : ℕ → A) where
-  pub after_fit : (s : Shape) → judged o image ≡ Fit s → after_test (header_test o image) go refuse ≡ go
-  after_fit s e = rw (fit_number o image s e) refl
+module _ {A : Type 0} (n : ℕ) (go : A) (refuse : ℕ → A) where
+  -- where they pass
+  pub after_done : done ≡ n → go ≡ after_test n go refuse
+  after_done e = rw (← e) refl
 
-  by_number : (n : ℕ) → header_test o image ≡ n → 0 < n → after_test (header_test o image) go refuse ≡ refuse n
-  by_number zero e h = absurd (omega arith)
-  by_number (suc n) e h = rw e refl
+  -- and where they refuse
+  pub after_refusal : (r : Refusal) → number r ≡ n → refuse (number r) ≡ after_test n go refuse
+  after_refusal r e = rw (← e) (by_number r)
+    where
+      by_number : (r : Refusal) → refuse (number r) ≡ after_test (number r) go refuse
+      by_number NeedsRebuild = refl
+      by_number Incompatible = refl
+      by_number Invalidated = refl
+      by_number Busy = refl
+      by_number Full = refl
+      by_number OutOfOrder = refl
+      by_number InvalidInput = refl
+      by_number NotPresent = refl
+      by_number CreateIt = refl
+      by_number TooShort = refl
 
-  pub after_refused : (n : ℕ) → judged o image ≡ Refused n → after_test (header_test o image) go refuse ≡ refuse n
-  after_refused n e = let r = refused_number o image n e in by_number n r.0 r.1
+-- by a number other than 0
+pub after_failed : {A : Type 0} (go : A) (refuse : ℕ → A) (n : ℕ) → (n ≡ 0 → ⊥) → after_test n go refuse ≡ refuse n
+after_failed go refuse zero h = absurd (h refl)
+after_failed go refuse (suc n) h = refl

@@ -10,3 +10,4 @@ pub mod PassedTests
 pub mod SizeLaws
 pub mod Stages
 pub mod Table
+pub mod Opening

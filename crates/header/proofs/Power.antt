@@ -1,14 +1,16 @@
--- Laws of `power_from`, and the search for it by doubling.
+-- Laws of `power_from`.
 -- Assumes nothing.
-use Prim.Native.Nat.{ℕ, zero, suc, ◌+◌, ◌*◌, ◌^◌, ◌≤◌, ◌<◌}
+use Prim.Native.Nat.{ℕ, zero, suc, ◌+◌, ◌*◌, ◌/◌, ◌^◌, ◌≤◌, ◌<◌}
 use mathlib.Core.Bool.{Bool, true, false, cond}
 use mathlib.Core.Path.{◌≡◌, refl, sym, ap, ◌∙◌}
 use native.Mathlib.Nat.{zero-add, add-suc, suc-add, two-pow-succ}
 use native.Mathlib.Decide.{dec_le}
 use native.Mathlib.Omega.{arith}
 use borrow.Author.Tests.{leb-true, leb-false, le-leb, lt-leb, eqb-true, eq-eqb}
-use lib.Dec.{leb}
+use lib.Dec.{leb, lit<}
 use lib.Pow.{pow_pos, pow_mono, pow-lt}
+use Rattle.std.specs.Prelude.{max}
+use Rattle.std.specs.Int.{IsPowerOfTwo}
 use Rattle.header.specs.Sizes.{power_from}
 use Rattle.header.specs.HeaderTest.{power_of_two}
 
@@ -41,44 +43,28 @@ power_high (suc more) k n h =
     at_cond (λ (r : ℕ). r < 2 * n) (leb n (2 ^ k)) (λ e. h)
     (λ e. power_high more (suc k) n (rw two-pow-succ (omega (arith, leb-false n (2 ^ k) e))))
 
--- count is a power of two that the search from 1 comes by: what is left of the search gives the same
-pub record Passed (n count : ℕ) : Type 0 where
-  pub more : ℕ
-  pub exponent : ℕ
-  pub together : more + exponent ≡ 64
-  pub here : count ≡ 2 ^ exponent
-  pub rest : power_from 64 0 n ≡ power_from more exponent n
+-- two powers of two that are not below n, and whose halves are, are one
+power_once : (n j k : ℕ) → n ≤ 2 ^ j → 2 ^ k / 2 < max 1 n → k ≤ j
+power_once n j k low high =
+    elim (dec_le k j) [
+      | yes h ↦ h
+      | no h ↦ absurd (let more : 2 ^ suc j ≤ 2 ^ k = pow_mono {i = suc j} {j = k} (omega arith) in omega (arith, rw two-pow-succ at more, pow_pos j))
+    ]
 
-pub passed_first : (n : ℕ) → Passed n 1
-passed_first n = record { more = 64; exponent = 0; together = refl; here = refl; rest = refl }
-
-pub passed_positive : {n count : ℕ} → Passed n count → 0 < count
-passed_positive p = omega (arith, pow_pos p.exponent)
-
--- what is left of the search gives the power, where it is not below n
-stops : (more k n : ℕ) → n ≤ 2 ^ k → power_from more k n ≡ 2 ^ k
+-- half of it is below n, or it is 1
+power_half : (n : ℕ) → power_from 64 0 n / 2 < max 1 n
 unfolding power_from
-stops zero k n h = refl
-stops (suc more) k n h = rw (le-leb n (2 ^ k) h)
+power_half zero = lit< tt
+power_half (suc n) = omega (arith, power_high 64 0 (suc n) (omega arith))
 
-pub passed_last : {n count : ℕ} → Passed n count → n ≤ count → count ≡ power_from 64 0 n
-passed_last {n} p h = p.here ∙ sym (p.rest ∙ stops p.more p.exponent n (rw p.here at h))
-
--- one more doubling, where the power is below n
-pub passed_next : {n count : ℕ} → Passed n count → count < n → n ≤ 2 ^ 63 → Passed n (2 * count)
-unfolding power_from
-passed_next {n} {count} p h most = go p.more p.exponent p.together p.here p.rest
-  where
-    go : (more k : ℕ) → more + k ≡ 64 → count ≡ 2 ^ k → power_from 64 0 n ≡ power_from more k n → Passed n (2 * count)
-    go zero k t here rest = absurd (let big : 2 ^ 64 ≤ 2 ^ k = pow_mono {i = 64} {j = k} (omega arith) in omega arith)
-    go (suc more) k t here rest =
-        record {
-          more = more;
-          exponent = suc k;
-          together = omega arith;
-          here = rw two-pow-succ (omega arith);
-          rest = rest ∙ rw (lt-leb n (2 ^ k) (rw here at h)) refl;
-        }
+-- so what std's search gives is the power
+pub next_power : (n r : ℕ) → n ≤ 2 ^ 63 → IsPowerOfTwo r → n ≤ r → r / 2 < max 1 n → r ≡ power_from 64 0 n
+next_power n r most is low high =
+    let p = power_two 64 0 n in
+    let above : n ≤ 2 ^ p.0 = rw p.1 at (power_low 64 0 n (omega arith)) in
+    let half : 2 ^ p.0 / 2 < max 1 n = rw p.1 at (power_half n) in
+    let one : is.0 ≡ p.0 = omega (arith, power_once n p.0 is.0 above (rw is.1 at high), power_once n is.0 p.0 (rw is.1 at low) half) in
+    is.1 ∙ ap (◌^◌ 2) one ∙ sym p.1
 
 -- the smallest power of two that is at least a power of two is that one
 power_itself : (more k j : ℕ) → k ≤ j → j ≤ more + k → power_from more k (2 ^ j) ≡ 2 ^ j

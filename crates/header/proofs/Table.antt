@@ -7,11 +7,13 @@ use mathlib.Core.List.{List}
 use native.Mathlib.Nat.{le_of_suc-le-suc, not-suc-le-zero}
 use native.Mathlib.Omega.{arith}
 use borrow.Author.Tests.{leb-true, eqb-true, ne_eqb}
-use lib.Dec.{leb, eqb}
+use lib.Dec.{leb, eqb, lit<}
 use lib.ListN.{take, drop}
 use Rattle.numbers.specs.Bytes.{part, word}
 use Rattle.header.specs.declared.fields.Field.{Field}
-use Rattle.header.specs.Fields.{field_of, value, bytes_in}
+use Rattle.header.specs.declared.fields.Name.{Name}
+use Rattle.header.specs.declared.fields.Name.TheVariants.{Magic, Version, HeaderSize, KeySize, IndexSize, SlotSize, HashAlg, Flags, SlotCapacity, SlotHighwater, LiveCount, UserVersion, Generation, BucketCount, BucketUsed, BucketTombstones, SlotsOffset, BucketsOffset, HeaderCrc32c, State, UserFlags, UserData, Reserved}
+use Rattle.header.specs.Fields.{place, field_of, value, bytes_in}
 
 -- whether a test holds of every name below n
 all_below : ℕ → (ℕ → Bool) → Bool
@@ -28,6 +30,32 @@ below (suc n) p t (suc k) h =
 -- what one test over the first n fields says of each
 tested : (n : ℕ) (p : Field → Bool) → all_below n (λ name. p (field_of name)) ≡ true → (name : ℕ) {f : Field} → name < n → f ≡ field_of name → p f ≡ true
 tested n p t name h e = rw e (below n (λ name. p (field_of name)) t name h)
+
+-- a name's place is in the table
+pub place_lt : (name : Name) → place name < 23
+place_lt Magic = lit< tt
+place_lt Version = lit< tt
+place_lt HeaderSize = lit< tt
+place_lt KeySize = lit< tt
+place_lt IndexSize = lit< tt
+place_lt SlotSize = lit< tt
+place_lt HashAlg = lit< tt
+place_lt Flags = lit< tt
+place_lt SlotCapacity = lit< tt
+place_lt SlotHighwater = lit< tt
+place_lt LiveCount = lit< tt
+place_lt UserVersion = lit< tt
+place_lt Generation = lit< tt
+place_lt BucketCount = lit< tt
+place_lt BucketUsed = lit< tt
+place_lt BucketTombstones = lit< tt
+place_lt SlotsOffset = lit< tt
+place_lt BucketsOffset = lit< tt
+place_lt HeaderCrc32c = lit< tt
+place_lt State = lit< tt
+place_lt UserFlags = lit< tt
+place_lt UserData = lit< tt
+place_lt Reserved = lit< tt
 
 -- every field lies in the header
 pub inside : (name : ℕ) {f : Field} → name < 23 → f ≡ field_of name → f.offset + f.width ≤ 256

@@ -1,6 +1,8 @@
 -- "Numbers given back".
 -- Assumes nothing.
-use Rattle.std.specs.Prelude.{ℕ}
+use Rattle.std.specs.Prelude.{ℕ, Result, Ok, Err}
+use Rattle.header.specs.declared.refusal.Refusal.{Refusal}
+use Rattle.header.specs.declared.refusal.Refusal.TheVariants.{NeedsRebuild, Incompatible, Invalidated, Busy, Full, OutOfOrder, InvalidInput, NotPresent, CreateIt, TooShort}
 
 -- "done or found"
 abbrev pub done : ℕ
@@ -38,3 +40,21 @@ create_it = 10
 -- "lent output too short"
 abbrev pub too_short : ℕ
 too_short = 11
+
+-- the number of each refusal
+abbrev pub number : Refusal → ℕ
+number NeedsRebuild = needs_rebuild
+number Incompatible = incompatible
+number Invalidated = invalidated
+number Busy = busy
+number Full = full
+number OutOfOrder = out_of_order
+number InvalidInput = invalid_input
+number NotPresent = not_present
+number CreateIt = create_it
+number TooShort = too_short
+
+-- the number given back
+abbrev pub answer : {A : Type 0} → Result A Refusal → ℕ
+answer (Ok a) = done
+answer (Err r) = number r

@@ -3,6 +3,8 @@
 use Rattle.std.specs.Prelude.{ℕ, List, [], ◌∷◌, get_or}
 use Rattle.numbers.specs.Bytes.{part, word}
 use Rattle.header.specs.declared.fields.Field.{Field}
+use Rattle.header.specs.declared.fields.Name.{Name}
+use Rattle.header.specs.declared.fields.Name.TheVariants.{Magic, Version, HeaderSize, KeySize, IndexSize, SlotSize, HashAlg, Flags, SlotCapacity, SlotHighwater, LiveCount, UserVersion, Generation, BucketCount, BucketUsed, BucketTombstones, SlotsOffset, BucketsOffset, HeaderCrc32c, State, UserFlags, UserData, Reserved}
 
 abbrev pub field : ℕ → ℕ → Field
 field at n = record { offset = at; width = n }
@@ -102,6 +104,32 @@ user_data = 21
 
 abbrev pub reserved : ℕ
 reserved = 22
+
+-- the place of a name that the program writes
+abbrev pub place : Name → ℕ
+place Magic = magic
+place Version = version
+place HeaderSize = header_size
+place KeySize = key_size_field
+place IndexSize = index_size_field
+place SlotSize = slot_size_field
+place HashAlg = hash_alg
+place Flags = flags
+place SlotCapacity = slot_capacity_field
+place SlotHighwater = slot_highwater
+place LiveCount = live_count_field
+place UserVersion = user_version
+place Generation = generation
+place BucketCount = bucket_count_field
+place BucketUsed = bucket_used
+place BucketTombstones = bucket_tombstones
+place SlotsOffset = slots_offset
+place BucketsOffset = buckets_offset_field
+place HeaderCrc32c = header_crc32c
+place State = state
+place UserFlags = user_flags
+place UserData = user_data
+place Reserved = reserved
 
 abbrev pub field_of : ℕ → Field
 field_of name = get_or fields name (field 0 0)

@@ -6,8 +6,6 @@ use Rattle.digests.specs.Crc.{header_crc}
 use Rattle.header.specs.declared.options.Options.{Options}
 use Rattle.header.specs.declared.shape.Layout.{Layout}
 use Rattle.header.specs.declared.shape.Shape.{Shape}
-use Rattle.header.specs.declared.shape.Judged.{Judged}
-use Rattle.header.specs.declared.shape.Judged.TheVariants.{Fit, Refused}
 use Rattle.header.specs.Answer.{needs_rebuild, incompatible, invalidated, busy, invalid_input, create_it}
 use Rattle.header.specs.Fields as F
 use Rattle.header.specs.Fields.{value, bytes_in, SLC1}
@@ -151,13 +149,6 @@ shape_of image =
       state = value image F.state;
       generation = value image F.generation;
     }
-
-abbrev pub verdict : ℕ → Shape → Judged
-verdict zero s = Fit s
-verdict (suc n) s = Refused (suc n)
-
-unfoldable pub judged : Options → List ℕ → Judged
-judged o image = verdict (header_test o image) (shape_of image)
 
 -- "Every call but create and revision age makes this test first": by its number, what the call goes on to, or a refusal
 abbrev pub after_test : {A : Type 0} → ℕ → A → (ℕ → A) → A

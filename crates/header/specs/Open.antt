@@ -1,10 +1,10 @@
 -- "Open check is this test alone; with 0 it hands out the user fields."
 -- Assumes nothing.
-use Rattle.std.specs.Prelude.{ℕ, List, replicate}
-use Rattle.header.specs.declared.open.Opened.{Opened}
+use Rattle.std.specs.Prelude.{ℕ, List, replicate, Result, Ok, Err}
 use Rattle.header.specs.declared.open.UserFields.{UserFields}
 use Rattle.header.specs.declared.options.Options.{Options}
-use Rattle.header.specs.Answer.{done}
+use Rattle.header.specs.declared.refusal.Refusal.{Refusal}
+use Rattle.header.specs.Answer.{done, number}
 use Rattle.header.specs.Fields as F
 use Rattle.header.specs.Fields.{value, bytes_in}
 use Rattle.header.specs.HeaderTest.{header_test, after_test}
@@ -16,6 +16,16 @@ user_fields image = record { user_flags = value image F.user_flags; user_data = 
 -- "all else returned is 0 or empty"
 unfoldable pub no_fields : UserFields
 no_fields = record { user_flags = 0; user_data = replicate 64 0 }
+
+-- the number given back, and the fields beside it
+pub record Opened : Type 0 where
+  pub answer : ℕ
+  pub fields : UserFields
+
+-- the same of what the code returns
+abbrev pub opened : Result UserFields Refusal → Opened
+opened (Ok f) = record { answer = done; fields = f }
+opened (Err r) = record { answer = number r; fields = no_fields }
 
 unfoldable pub open_of : Options → List ℕ → Opened
 open_of o image =

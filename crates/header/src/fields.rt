@@ -1,8 +1,13 @@
-// The header's fields, as one table of offset and width, in the header's order. A field's name is its place in the table.
-ghost use Rattle.std.specs.Prelude.{◌≡◌, ◌≤◌, ◌<◌, length};
-ghost use Rattle.header.specs.Fields.{field_of, value, bytes_in};
+// The header's fields, as one table of name, offset and width, in the header's order.
+ghost use Rattle.std.specs.Prelude.{ℕ, List, ◌≡◌, ◌≤◌, ◌<◌, length, IfOk};
+ghost use Rattle.header.specs.Answer.{answer};
+ghost use Rattle.header.specs.FirstOf.{first_of};
+ghost use Rattle.header.specs.HeaderTest.{test2};
+ghost use Rattle.header.specs.Fields.{field, place, field_of, value, bytes_in};
 
+use crate::refusal::{Refusal, refuse_if};
 use numbers::words::{u32_at, u64_at};
+use std::marker::Model;
 
 #[derive(Clone, Copy)]
 pub struct Field {
@@ -10,162 +15,81 @@ pub struct Field {
     pub width: usize,
 }
 
+impl Field {
+    // So many bytes from the header's first, and so many long.
+    fn new(offset: usize, width: usize) -> Field
+        ensures { result ≡ field offset width }
+    {
+        Field { offset, width }
+    }
+}
+
 // What the magic of every image is: the bytes "SLC1" as a little-endian word.
 pub const SLC1: u64 = 0x31434C53;
 
-pub const MAGIC: usize = 0;
+// The name of a field.
+#[derive(Clone, Copy)]
+pub enum Name {
+    Magic,
+    Version,
+    HeaderSize,
+    KeySize,
+    IndexSize,
+    SlotSize,
+    HashAlg,
+    Flags,
+    SlotCapacity,
+    SlotHighwater,
+    LiveCount,
+    UserVersion,
+    Generation,
+    BucketCount,
+    BucketUsed,
+    BucketTombstones,
+    SlotsOffset,
+    BucketsOffset,
+    HeaderCrc32c,
+    State,
+    UserFlags,
+    UserData,
+    Reserved,
+}
 
-pub const VERSION: usize = 1;
-
-pub const HEADER_SIZE: usize = 2;
-
-pub const KEY_SIZE: usize = 3;
-
-pub const INDEX_SIZE: usize = 4;
-
-pub const SLOT_SIZE: usize = 5;
-
-pub const HASH_ALG: usize = 6;
-
-pub const FLAGS: usize = 7;
-
-pub const SLOT_CAPACITY: usize = 8;
-
-pub const SLOT_HIGHWATER: usize = 9;
-
-pub const LIVE_COUNT: usize = 10;
-
-pub const USER_VERSION: usize = 11;
-
-pub const GENERATION: usize = 12;
-
-pub const BUCKET_COUNT: usize = 13;
-
-pub const BUCKET_USED: usize = 14;
-
-pub const BUCKET_TOMBSTONES: usize = 15;
-
-pub const SLOTS_OFFSET: usize = 16;
-
-pub const BUCKETS_OFFSET: usize = 17;
-
-pub const HEADER_CRC32C: usize = 18;
-
-pub const STATE: usize = 19;
-
-pub const USER_FLAGS: usize = 20;
-
-pub const USER_DATA: usize = 21;
-
-pub const RESERVED: usize = 22;
-
-const FIELDS: [Field; 23] = [
-    Field {
-        offset: 0x00,
-        width: 4,
-    },
-    Field {
-        offset: 0x04,
-        width: 4,
-    },
-    Field {
-        offset: 0x08,
-        width: 4,
-    },
-    Field {
-        offset: 0x0C,
-        width: 4,
-    },
-    Field {
-        offset: 0x10,
-        width: 4,
-    },
-    Field {
-        offset: 0x14,
-        width: 4,
-    },
-    Field {
-        offset: 0x18,
-        width: 4,
-    },
-    Field {
-        offset: 0x1C,
-        width: 4,
-    },
-    Field {
-        offset: 0x20,
-        width: 8,
-    },
-    Field {
-        offset: 0x28,
-        width: 8,
-    },
-    Field {
-        offset: 0x30,
-        width: 8,
-    },
-    Field {
-        offset: 0x38,
-        width: 8,
-    },
-    Field {
-        offset: 0x40,
-        width: 8,
-    },
-    Field {
-        offset: 0x48,
-        width: 8,
-    },
-    Field {
-        offset: 0x50,
-        width: 8,
-    },
-    Field {
-        offset: 0x58,
-        width: 8,
-    },
-    Field {
-        offset: 0x60,
-        width: 8,
-    },
-    Field {
-        offset: 0x68,
-        width: 8,
-    },
-    Field {
-        offset: 0x70,
-        width: 4,
-    },
-    Field {
-        offset: 0x74,
-        width: 4,
-    },
-    Field {
-        offset: 0x78,
-        width: 8,
-    },
-    Field {
-        offset: 0x80,
-        width: 64,
-    },
-    Field {
-        offset: 0xC0,
-        width: 64,
-    },
-];
-
-// Where a field stands in the header.
-pub fn field_of(name: usize) -> Field
-    requires { name < 23 }
-    ensures { result ≡ field_of name }
+// The table: where each field stands in the header.
+pub fn field_of(name: Name) -> Field
+    ensures { result ≡ field_of (place name) }
 {
-    FIELDS[name]
+    match name {
+        Name::Magic => Field::new(0x00, 4),
+        Name::Version => Field::new(0x04, 4),
+        Name::HeaderSize => Field::new(0x08, 4),
+        Name::KeySize => Field::new(0x0C, 4),
+        Name::IndexSize => Field::new(0x10, 4),
+        Name::SlotSize => Field::new(0x14, 4),
+        Name::HashAlg => Field::new(0x18, 4),
+        Name::Flags => Field::new(0x1C, 4),
+        Name::SlotCapacity => Field::new(0x20, 8),
+        Name::SlotHighwater => Field::new(0x28, 8),
+        Name::LiveCount => Field::new(0x30, 8),
+        Name::UserVersion => Field::new(0x38, 8),
+        Name::Generation => Field::new(0x40, 8),
+        Name::BucketCount => Field::new(0x48, 8),
+        Name::BucketUsed => Field::new(0x50, 8),
+        Name::BucketTombstones => Field::new(0x58, 8),
+        Name::SlotsOffset => Field::new(0x60, 8),
+        Name::BucketsOffset => Field::new(0x68, 8),
+        Name::HeaderCrc32c => Field::new(0x70, 4),
+        Name::State => Field::new(0x74, 4),
+        Name::UserFlags => Field::new(0x78, 8),
+        Name::UserData => Field::new(0x80, 64),
+        Name::Reserved => Field::new(0xC0, 64),
+    }
 }
 
 // The number in a field of four or eight bytes, little-endian.
-pub fn read(image: &[u8], name: usize) -> u64
-    requires { (256 ≤ length image.now) × (name < 21) }
-    ensures { result ≡ value image.now name }
+pub fn read(image: &[u8], name: Name) -> u64
+    requires { (256 ≤ length image.now) × (place name < 21) }
+    ensures { result ≡ value image.now (place name) }
 {
     let f = field_of(name);
     let at = f.offset;
@@ -177,13 +101,56 @@ pub fn read(image: &[u8], name: usize) -> u64
     }
 }
 
-// The bytes of a field: a part of the lent image.
-pub fn bytes_in(image: &[u8], name: usize) -> &[u8]
-    requires { (256 ≤ length image.now) × (name < 23) }
-    ensures { result.now ≡ bytes_in image.now name }
-{
-    let f = field_of(name);
-    let at = f.offset;
-    let end = at + f.width;
-    &image[at..end]
+// An image that is long enough for a header. A clause sees its bytes.
+#[derive(Drop)]
+pub(crate) struct Header<'a> {
+    image: &'a [u8],
+}
+
+impl<'a> Model for Header<'a> {
+    ghost Value = { List ℕ };
+
+    ghost view = { λ h. h.image.now };
+
+    ghost invariant = { λ h. 256 ≤ length h.image.now };
+}
+
+impl<'a> Header<'a> {
+    // 2. An image of length 0, or one shorter than a header.
+    #[tactic(auto, unfolding(crate::specs::FirstOf::first_of, crate::specs::HeaderTest::test2))]
+    pub fn of(image: &'a [u8]) -> Result<Header<'a>, Refusal>
+        ensures numbered { answer result ≡ first_of (test2 image.now) }
+        ensures bytes { IfOk result (λ h. h ≡ image.now) }
+    {
+        refuse_if(image.len() == 0, Refusal::CreateIt)?;
+        refuse_if(image.len() < 256, Refusal::NeedsRebuild)?;
+        Ok(Header { image })
+    }
+
+    // The bytes.
+    pub fn image(&self) -> &'a [u8]
+        ensures bytes { result.now ≡ self.now }
+        ensures long { 256 ≤ length result.now }
+    {
+        self.image
+    }
+
+    // The number in a field of four or eight bytes.
+    pub fn read(&self, name: Name) -> u64
+        requires { place name < 21 }
+        ensures { result ≡ value self.now (place name) }
+    {
+        read(self.image, name)
+    }
+
+    // The bytes of a field: a part of the lent image.
+    pub fn bytes_in(&self, name: Name) -> &'a [u8]
+        ensures bytes { result.now ≡ bytes_in self.now (place name) }
+        ensures long { length result.now ≡ (field_of (place name)).width }
+    {
+        let f = field_of(name);
+        let at = f.offset;
+        let end = at + f.width;
+        &self.image[at..end]
+    }
 }

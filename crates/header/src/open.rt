@@ -1,14 +1,11 @@
-// Open check: the header test alone, and with 0 the user fields.
-ghost use Rattle.std.specs.Prelude.{◌≡◌, ◌≤◌, length};
-ghost use Rattle.header.specs.Open.{user_fields, no_fields, open_of};
+// Open check: the header test alone, and the user fields of an image that passes.
+ghost use Rattle.std.specs.Prelude.{◌≡◌};
+ghost use Rattle.header.specs.Open.{user_fields, opened, open_of};
 
-use crate::answer::DONE;
-use crate::fields;
-use crate::fields::{bytes_in, read};
-use crate::judge::judge;
+use crate::fields::{Header, Name};
+use crate::judge::header_test;
 use crate::options::Options;
-use crate::shape::Judged;
-use numbers::parts::copy_to;
+use crate::refusal::Refusal;
 
 // The user data are so many bytes.
 pub const USER_DATA_SIZE: usize = 64;
@@ -20,47 +17,22 @@ pub struct UserFields {
     pub user_data: [u8; USER_DATA_SIZE],
 }
 
-#[derive(Drop)]
-pub struct Opened {
-    pub answer: u32,
-    pub fields: UserFields,
-}
-
 // The user fields of an image.
-fn user_fields(image: &[u8]) -> UserFields
-    requires { 256 ≤ length image.now }
-    ensures { result ≡ user_fields image.now }
+fn user_fields(header: &Header) -> UserFields
+    ensures { result ≡ user_fields header.now }
 {
-    let mut bytes = [0u8; USER_DATA_SIZE];
-    copy_to(&mut bytes, 0, bytes_in(image, fields::USER_DATA));
+    let mut user_data = [0u8; USER_DATA_SIZE];
+    user_data.copy_from_slice(header.bytes_in(Name::UserData));
     UserFields {
-        user_flags: read(image, fields::USER_FLAGS),
-        user_data: bytes,
+        user_flags: header.read(Name::UserFlags),
+        user_data,
     }
 }
 
-// A refusal: all else returned is 0.
-fn refused(answer: u32) -> Opened
-    ensures { result ≡ record { answer = answer; fields = no_fields } }
+// Makes the header test, and hands out the user fields of an image that passes.
+pub fn open_check(image: &[u8], o: Options) -> Result<UserFields, Refusal>
+    ensures { opened result ≡ open_of o image.now }
 {
-    Opened {
-        answer,
-        fields: UserFields {
-            user_flags: 0,
-            user_data: [0u8; USER_DATA_SIZE],
-        },
-    }
-}
-
-// Answers the header test's number; with 0 the user fields are the image's, else zeros.
-pub fn open_check(image: &[u8], o: Options) -> Opened
-    ensures { result ≡ open_of o image.now }
-{
-    match judge(image, o) {
-        Judged::Fit(_) => Opened {
-            answer: DONE,
-            fields: user_fields(image),
-        },
-        Judged::Refused(number) => refused(number),
-    }
+    let header = header_test(image, o)?;
+    Ok(user_fields(&header))
 }

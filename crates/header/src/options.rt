@@ -9,7 +9,7 @@ pub struct Options {
     pub index_size: u64,
     pub slot_capacity: u64,
     pub user_version: u64,
-    // 0 or 1
+    // 0 or 1. C may pass any number, here and as the role, so they are no `bool` and no enum: the first test refuses the others
     pub ordered: u64,
     // 0: no writer known. 1: another writer is active. 2: the caller holds the lock
     pub role: u64,

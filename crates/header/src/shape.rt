@@ -22,10 +22,3 @@ pub struct Shape {
     pub state: u64,
     pub generation: u64,
 }
-
-// The header test's answer: the shape of the image, or the number that refuses it.
-#[derive(Drop)]
-pub enum Judged {
-    Fit(Shape),
-    Refused(u32),
-}

@@ -1,7 +1,6 @@
 // The sizes allowed, and the sizes and offsets that follow from them.
 ghost use Rattle.std.specs.Prelude.{true, ◌≡◌, ◌+◌, ◌^◌, ◌≤◌, ◌<◌};
-ghost use Rattle.header.specs.Sizes.{align8 as aligned, slot_size, power_from, bucket_count, buckets_offset, total_size, sizes_to_open, sizes_to_create, capacity_fits, most_key_size, most_index_size, most_slot_capacity};
-ghost use Rattle.header.specs.HeaderTest.{power_of_two};
+ghost use Rattle.header.specs.Sizes.{align8 as aligned, slot_size, bucket_count, buckets_offset, total_size, sizes_to_open, sizes_to_create, capacity_fits, most_key_size, most_index_size, most_slot_capacity};
 
 use crate::options::Options;
 
@@ -41,11 +40,12 @@ pub fn capacity_fits(option: u64, capacity: u64) -> bool
 }
 
 // The next multiple of 8.
+#[tactic(auto, unfolding(crate::specs::Sizes::align8))]
 pub fn align8(n: u64) -> u64
     requires { n + 7 < 2 ^ 64 }
     ensures { result ≡ aligned n }
 {
-    (n + 7) / 8 * 8
+    n.next_multiple_of(8)
 }
 
 // The size of a slot: meta, key, revision and index, with zeros to a multiple of 8 behind key and index.
@@ -56,34 +56,12 @@ pub fn slot_size(key_size: u64, index_size: u64) -> u64
     8 + align8(key_size) + 8 + align8(index_size)
 }
 
-// The smallest power of two that is at least n.
-fn power_from(n: u64) -> u64
-    requires { n ≤ 2 ^ 63 }
-    ensures { result ≡ power_from 64 0 n }
-{
-    let mut power: u64 = 1;
-    while power < n {
-        power = 2 * power;
-    }
-    power
-}
-
-// Whether a number is a power of two: it has one bit, which n - 1 has not.
-pub fn power_of_two(n: u64) -> bool
-    ensures { result ≡ power_of_two n }
-{
-    if n == 0 {
-        return false;
-    }
-    n & (n - 1) == 0
-}
-
 // The smallest power of two that is at least twice the slot capacity.
 pub fn bucket_count(slot_capacity: u64) -> u64
     requires { slot_capacity ≤ most_slot_capacity }
     ensures { result ≡ bucket_count slot_capacity }
 {
-    power_from(2 * slot_capacity)
+    (2 * slot_capacity).next_power_of_two()
 }
 
 // Where the buckets begin, behind the header and the slots.

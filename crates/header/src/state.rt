@@ -1,4 +1,5 @@
-// The states of an image, the roles of a caller, and the steps of the generation.
+// The states of an image, the roles of a caller, and the steps of the generation. States and roles are numbers, and no enums, since an
+// image and a caller may hold any: the sixth test refuses an unknown state, and the first an unknown role.
 
 // No writer has the image open.
 pub const CLEAN: u64 = 0;

@@ -1,57 +1,59 @@
 -- The user data written to a lent buffer, by what the open check returned, and taken from a lent slice.
 -- Assumes nothing.
-use Prim.Native.Nat.{ℕ, zero, suc, ◌+◌, ◌≤◌, ◌<◌}
-use mathlib.Core.Path.{◌≡◌, refl, sym, ◌∙◌}
-use mathlib.Core.List.{List, append-nil}
-use native.Mathlib.Omega.{arith}
+use Prim.Native.Nat.{ℕ, zero, suc, ◌≤◌, ◌<◌}
+use mathlib.Core.Path.{◌≡◌, refl, sym, ap, ◌∙◌}
+use mathlib.Core.List.{List}
 use borrow.Author.Tests.{lt-ltb, le-ltb, eq-eqb, ne_eqb}
-use lib.Dec.{lit<}
-use lib.ListN.{length, drop_of_length-le}
+use lib.ListN.{length}
 use Rattle.numbers.specs.Bytes.{put}
-use Rattle.header.specs.declared.open.Opened.{Opened}
+use Rattle.std.specs.Prelude.{Result, Ok, Err}
+use Rattle.header.specs.declared.open.UserFields.{UserFields}
+use Rattle.header.specs.declared.refusal.Refusal.{Refusal}
 use Rattle.header.specs.declared.options.Options.{Options}
-use Rattle.header.specs.Answer.{done, invalid_input, too_short}
-use Rattle.header.specs.Fields as F
+use Rattle.header.specs.Answer.{answer, done, invalid_input, number, too_short}
 use Rattle.header.specs.HeaderTest.{header_test, after_test}
-use Rattle.header.specs.Open.{open_of, user_fields}
-use Rattle.header.proofs.FieldBytes.{bytes_length}
-use Rattle.header.proofs.Fit.{fit_length, judged_fit}
+use Rattle.header.specs.Open.{Opened, opened, open_of, user_fields}
 use Rattle.writing.specs.State.{set_user_fields_of}
-use Rattle.host.specs.UserData.{user_data_of, set_user_fields_from}
-use Rattle.host.proofs.Failed.{after_failed}
+use Rattle.host.specs.UserData.{filled, user_data_of, set_user_fields_from}
+use Rattle.header.proofs.After.{after_refusal}
 
--- the open check answers the header test's number
-answer_of : (n : ℕ) (go : Opened) (refuse : ℕ → Opened) → go.answer ≡ 0 → ((m : ℕ) → (refuse m).answer ≡ m) → (after_test n go refuse).answer ≡ n
-answer_of zero go refuse z h = z
-answer_of (suc n) go refuse z h = h (suc n)
+-- the number that C is given of the open check
+pub opened_answer : (r : Result UserFields Refusal) → answer r ≡ (opened r).answer
+opened_answer (Ok f) = refl
+opened_answer (Err e) = refl
 
-module _ (o : Options) (image out : List ℕ) (r : Opened) (returned : r ≡ open_of o image) where
-  number : r.answer ≡ header_test o image
+module _ (o : Options) (image out : List ℕ) where
+  -- the open check answers the header test's number
+  answers : (open_of o image).answer ≡ header_test o image
   unfolding open_of
-  number = rw returned (answer_of (header_test o image) _ _ refl (λ m. refl))
+  answers = answer_of (header_test o image) _ _ refl (λ m. refl)
+    where
+      answer_of : (n : ℕ) (go : Opened) (refuse : ℕ → Opened) → go.answer ≡ 0 → ((m : ℕ) → (refuse m).answer ≡ m) → (after_test n go refuse).answer ≡ n
+      answer_of zero go refuse z h = z
+      answer_of (suc n) go refuse z h = h (suc n)
 
-  pub data_refused : (r.answer ≡ 0 → ⊥) → (r.answer ≡ (user_data_of o image out).answer) × (out ≡ (user_data_of o image out).bytes)
+  pub data_refused : (r : Refusal) → opened (Err r) ≡ open_of o image → {n : ℕ} → n ≡ number r
+      → (n ≡ (user_data_of o image out).answer) × (out ≡ (user_data_of o image out).bytes)
   unfolding user_data_of
-  data_refused h = rw (sym number, after_failed _ _ r.answer h) (refl, refl)
+  data_refused r returned e =
+      let numbered : number r ≡ header_test o image = ap (λ (x : Opened). x.answer) returned ∙ answers in
+      rw (← after_refusal (header_test o image) _ (λ n. filled n out) r numbered) (e, refl)
 
-  module _ (z : r.answer ≡ 0) where
+  module _ (f : UserFields) (returned : opened (Ok f) ≡ open_of o image) where
     passed : header_test o image ≡ 0
-    passed = sym number ∙ z
+    passed = sym (ap (λ (x : Opened). x.answer) returned ∙ answers)
 
-    pub data_short : length out < 64 → (too_short ≡ (user_data_of o image out).answer) × (out ≡ (user_data_of o image out).bytes)
+    pub data_short : length out < 64 → {n : ℕ} → n ≡ too_short → (n ≡ (user_data_of o image out).answer) × (out ≡ (user_data_of o image out).bytes)
     unfolding user_data_of
-    data_short h = rw (passed, lt-ltb (length out) 64 h) (refl, refl)
+    data_short h e = rw (passed, lt-ltb (length out) 64 h) (e, refl)
 
-    fields : r.fields ≡ user_fields image
+    fields : f ≡ user_fields image
     unfolding open_of
-    fields = rw (returned, passed) refl
+    fields =
+        let of : open_of o image ≡ record { answer = done; fields = user_fields image } = rw passed refl in
+        ap (λ (x : Opened). x.fields) (returned ∙ of)
 
-    pub data_length : length r.fields.user_data ≡ 64
-    unfolding user_fields
-    data_length =
-        rw fields (bytes_length image F.user_data (fit_length o image _ (judged_fit o image passed)) (lit< tt))
-
-    pub data_written : 64 ≤ length out → {written : List ℕ} → written ≡ put out 0 r.fields.user_data → (done ≡ (user_data_of o image out).answer) × (written ≡ (user_data_of o image out).bytes)
+    pub data_written : 64 ≤ length out → {written : List ℕ} → written ≡ put out 0 f.user_data → (done ≡ (user_data_of o image out).answer) × (written ≡ (user_data_of o image out).bytes)
     unfolding user_data_of
     data_written h e = rw (e, fields, passed, le-ltb (length out) 64 h) (refl, refl)
 
@@ -62,19 +64,10 @@ module _ (o : Options) (image : List ℕ) (flags : ℕ) (bytes : List ℕ) where
   unfolding set_user_fields_from
   from_wrong ne e = rw (ne_eqb (length bytes) 64 ne) (e, refl)
 
-  -- 64 bytes put over 64 others
-  all_over : (was : List ℕ) → length bytes ≡ 64 → length was ≡ 64 → put was 0 bytes ≡ bytes
-  unfolding put
-  all_over was e e' =
-      let past : length was ≤ 0 + length bytes = omega arith in
-      rw (drop_of_length-le was past) (append-nil bytes)
-
   -- and user data of 64 bytes, copied first
-  pub from_right : (was bytes' : List ℕ) {r : ℕ} {image' : List ℕ}
+  pub from_right : {bytes' : List ℕ} {r : ℕ} {image' : List ℕ}
       → (r ≡ (set_user_fields_of o image (record { user_flags = flags; user_data = bytes' })).answer) × (image' ≡ (set_user_fields_of o image (record { user_flags = flags; user_data = bytes' })).image)
-      → bytes' ≡ put was 0 bytes → length bytes ≡ 64 → length was ≡ 64
+      → bytes' ≡ bytes → length bytes ≡ 64
       → (r ≡ (set_user_fields_from o image flags bytes).answer) × (image' ≡ (set_user_fields_from o image flags bytes).image)
   unfolding set_user_fields_from
-  from_right was bytes' told copied e e' =
-      let d : bytes' ≡ bytes = copied ∙ all_over was e e' in
-      rw (eq-eqb (length bytes) 64 e, ← d) told
+  from_right told copied e = rw (eq-eqb (length bytes) 64 e, ← copied) told

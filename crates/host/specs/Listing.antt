@@ -1,8 +1,7 @@
 -- One number of a listing, and the list that is left.
 -- Assumes nothing.
 use Rattle.std.specs.Prelude.{ℕ, ◌≡◌, List}
-use Rattle.listing.specs.declared.listed.Listed.{Listed}
-use Rattle.listing.specs.Scan.{Outcome}
+use Rattle.listing.specs.Scan.{Listed, Outcome}
 
 -- the call hands out this number of the outcome, and leaves the outcome's numbers in the lent list
 abbrev pub Hands : (Listed → ℕ) → Outcome → ℕ → List ℕ → Type 0

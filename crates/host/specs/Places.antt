@@ -1,6 +1,6 @@
 -- Sizes and places by the options alone: 0 where the options are outside the sizes, or there can be no such slot.
 -- Assumes nothing.
-use Rattle.std.specs.Prelude.{ℕ, cond, eqb, ltb}
+use Rattle.std.specs.Prelude.{ℕ, cond, eqb, ltb, Option, Some, None}
 use Rattle.header.specs.declared.options.Options.{Options}
 use Rattle.header.specs.FirstOf.{first_of}
 use Rattle.header.specs.HeaderTest.{test1, create_test1, after_test}
@@ -22,6 +22,11 @@ place_in o slot place = after_test (first_of (test1 o)) (cond (ltb slot (slots_f
 -- where a slot starts in an image under these options
 abbrev pub slot_place : Options → ℕ → ℕ
 slot_place o slot = slot_start (slot_size o.key_size o.index_size) slot
+
+-- the same, none where there can be no such slot
+unfoldable pub place_of : Options → ℕ → Option ℕ
+place_of o slot =
+    after_test (first_of (test1 o)) (cond (ltb slot (slots_for o.slot_capacity)) (Some (slot_place o slot)) None) (λ n. None)
 
 -- where its key and its index start
 unfoldable pub key_place : Options → ℕ → ℕ

@@ -3,10 +3,9 @@
 use Rattle.std.specs.Prelude.{ℕ, ◌-◌, cond, ◌≡◌, List, [], ◌∷◌, ltb, ℤ, pos, negsuc, length}
 use Rattle.numbers.specs.Bytes.{put}
 use Rattle.header.specs.Answer.{too_short}
-use Rattle.image.specs.declared.check.Checked.{Checked}
-use Rattle.image.specs.declared.lookup.Lookup.{Lookup}
-use Rattle.listing.specs.declared.listed.Listed.{Listed}
-use Rattle.listing.specs.Scan.{Outcome}
+use Rattle.image.specs.Check.{Checked}
+use Rattle.image.specs.Lookup.{Lookup}
+use Rattle.listing.specs.Scan.{Listed, Outcome}
 
 -- what the call answers, and the list that it leaves
 pub record Reported : Type 0 where

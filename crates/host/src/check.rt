@@ -5,10 +5,10 @@ ghost use Rattle.host.specs.Results.{Reports, check_report};
 ghost use Rattle.image.specs.Check.{check_of};
 
 use crate::results::FULL_CHECK_RESULTS;
-use header::answer::TOO_SHORT;
 use header::options::Options;
-use image::check::full_check;
-use numbers::parts::write_over;
+use header::refusal::{Refusal, number_of};
+use image::check::{Counts, full_check};
+use numbers::parts::copy_to;
 
 // 0 where every sentence of the full check holds, else the number that says why not.
 #[unsafe(no_mangle)]
@@ -34,7 +34,7 @@ pub extern "C" fn slc1_full_check(
             role,
         },
     );
-    checked.answer
+    number_of(&checked)
 }
 
 // The number of live slots where the full check answers 0, else 0.
@@ -61,7 +61,10 @@ pub extern "C" fn slc1_full_check_live(
             role,
         },
     );
-    checked.live
+    match checked {
+        Ok(counts) => counts.live,
+        Err(_) => 0,
+    }
 }
 
 // The number of TOMBSTONE buckets where the full check answers 0, else 0.
@@ -88,7 +91,10 @@ pub extern "C" fn slc1_full_check_tombstones(
             role,
         },
     );
-    checked.tombstones
+    match checked {
+        Ok(counts) => counts.tombstones,
+        Err(_) => 0,
+    }
 }
 
 // The sum of lookup counts over live keys where the full check answers 0, else 0.
@@ -115,7 +121,10 @@ pub extern "C" fn slc1_full_check_probes(
             role,
         },
     );
-    checked.probes
+    match checked {
+        Ok(counts) => counts.probes,
+        Err(_) => 0,
+    }
 }
 
 // Writes the answer, the number of live slots, that of TOMBSTONE buckets and the sum of lookup counts to the start of a lent list,
@@ -134,7 +143,7 @@ pub extern "C" fn slc1_full_check_results(
     ensures { Reports (check_report (check_of (options_of key_size index_size slot_capacity user_version ordered role) image.now) results.old) result results.new }
 {
     if results.len() < FULL_CHECK_RESULTS {
-        return TOO_SHORT;
+        return Refusal::TooShort.number();
     }
     let o = Options {
         key_size,
@@ -144,9 +153,19 @@ pub extern "C" fn slc1_full_check_results(
         ordered,
         role,
     };
-    let result = full_check(image, o);
-    let answer = result.answer as u64;
-    let all = [answer, result.live, result.tombstones, result.probes];
-    write_over(results, &all);
-    result.answer
+    let checked = full_check(image, o);
+    let answer = number_of(&checked);
+    let counts = checked.unwrap_or(Counts {
+        live: 0,
+        tombstones: 0,
+        probes: 0,
+    });
+    let all = [
+        u64::from(answer),
+        counts.live,
+        counts.tombstones,
+        counts.probes,
+    ];
+    copy_to(results, 0, &all);
+    answer
 }

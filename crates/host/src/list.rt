@@ -1,16 +1,33 @@
 // Scan and match: a call for each of their numbers, and one for all of them. Each makes the whole call, and fills the lent list.
+ghost use Rattle.std.specs.Prelude.{◌≤◌, length};
 ghost use Rattle.host.specs.Listing.{Hands};
 ghost use Rattle.host.specs.Options.{options_of};
-ghost use Rattle.host.specs.Results.{ReportsListing, listing_report};
+ghost use Rattle.host.specs.Results.{Reports, ReportsListing, listed_report, listing_report};
 ghost use Rattle.listing.specs.Match.{match_of};
-ghost use Rattle.listing.specs.Scan.{scan_of};
+ghost use Rattle.listing.specs.Scan.{scan_of, told};
 
 use crate::results::LISTING_RESULTS;
-use header::answer::TOO_SHORT;
 use header::options::Options;
+use header::refusal::{Refusal, number_of};
+use listing::listed::Listing;
 use listing::matching::match_bits;
 use listing::scan::scan;
-use numbers::parts::write_over;
+use numbers::parts::copy_to;
+
+// Writes the three results of a listing to the start of a lent list that has room for them, and answers its number.
+fn report_listing(listed: Result<Listing, Refusal>, results: &mut [u64]) -> u32
+    requires { 3 ≤ length results.old }
+    ensures { Reports (listed_report (told listed) results.old) result results.new }
+{
+    let answer = number_of(&listed);
+    let listing = listed.unwrap_or(Listing {
+        total: 0,
+        written: 0,
+    });
+    let all = [u64::from(answer), listing.total, listing.written];
+    copy_to(results, 0, &all);
+    answer
+}
 
 // Scan. 0, or the number that refuses the call.
 #[unsafe(no_mangle)]
@@ -42,7 +59,7 @@ pub extern "C" fn slc1_scan(
         limit,
         numbers,
     );
-    listed.answer
+    number_of(&listed)
 }
 
 // Scan. The total number of matches, 0 where the call is refused.
@@ -61,7 +78,7 @@ pub extern "C" fn slc1_scan_total(
 ) -> u64
     ensures { Hands (λ l. l.total) (scan_of (options_of key_size index_size slot_capacity user_version ordered role) image.now skip limit numbers.old) result numbers.new }
 {
-    let listed = scan(
+    let scanned = scan(
         image,
         Options {
             key_size,
@@ -75,7 +92,10 @@ pub extern "C" fn slc1_scan_total(
         limit,
         numbers,
     );
-    listed.total
+    match scanned {
+        Ok(listed) => listed.total,
+        Err(_) => 0,
+    }
 }
 
 // Scan. The number of entries written, 0 where the call is refused.
@@ -94,7 +114,7 @@ pub extern "C" fn slc1_scan_written(
 ) -> u64
     ensures { Hands (λ l. l.written) (scan_of (options_of key_size index_size slot_capacity user_version ordered role) image.now skip limit numbers.old) result numbers.new }
 {
-    let listed = scan(
+    let scanned = scan(
         image,
         Options {
             key_size,
@@ -108,7 +128,10 @@ pub extern "C" fn slc1_scan_written(
         limit,
         numbers,
     );
-    listed.written
+    match scanned {
+        Ok(listed) => listed.written,
+        Err(_) => 0,
+    }
 }
 
 // Scan. Writes the answer, the total and the number of entries written to the start of a lent list of results, whatever the answer
@@ -130,7 +153,7 @@ pub extern "C" fn slc1_scan_results(
     ensures { ReportsListing (listing_report (scan_of (options_of key_size index_size slot_capacity user_version ordered role) image.now skip limit numbers.old) numbers.old results.old) result numbers.new results.new }
 {
     if results.len() < LISTING_RESULTS {
-        return TOO_SHORT;
+        return Refusal::TooShort.number();
     }
     let o = Options {
         key_size,
@@ -141,10 +164,7 @@ pub extern "C" fn slc1_scan_results(
         role,
     };
     let scanned = scan(image, o, skip, limit, numbers);
-    let answer = scanned.answer as u64;
-    let all = [answer, scanned.total, scanned.written];
-    write_over(results, &all);
-    scanned.answer
+    report_listing(scanned, results)
 }
 
 // Match. 0, or the number that refuses the call.
@@ -183,7 +203,7 @@ pub extern "C" fn slc1_match(
         limit,
         numbers,
     );
-    matched.answer
+    number_of(&matched)
 }
 
 // Match. The total number of matches, 0 where the call is refused.
@@ -205,7 +225,7 @@ pub extern "C" fn slc1_match_total(
 ) -> u64
     ensures { Hands (λ l. l.total) (match_of (options_of key_size index_size slot_capacity user_version ordered role) image.now offset bits pattern.now skip limit numbers.old) result numbers.new }
 {
-    let matched = match_bits(
+    let selected = match_bits(
         image,
         Options {
             key_size,
@@ -222,7 +242,10 @@ pub extern "C" fn slc1_match_total(
         limit,
         numbers,
     );
-    matched.total
+    match selected {
+        Ok(matched) => matched.total,
+        Err(_) => 0,
+    }
 }
 
 // Match. The number of entries written, 0 where the call is refused.
@@ -244,7 +267,7 @@ pub extern "C" fn slc1_match_written(
 ) -> u64
     ensures { Hands (λ l. l.written) (match_of (options_of key_size index_size slot_capacity user_version ordered role) image.now offset bits pattern.now skip limit numbers.old) result numbers.new }
 {
-    let matched = match_bits(
+    let selected = match_bits(
         image,
         Options {
             key_size,
@@ -261,7 +284,10 @@ pub extern "C" fn slc1_match_written(
         limit,
         numbers,
     );
-    matched.written
+    match selected {
+        Ok(matched) => matched.written,
+        Err(_) => 0,
+    }
 }
 
 // Match. Writes its three results as slc1_scan_results does.
@@ -285,7 +311,7 @@ pub extern "C" fn slc1_match_results(
     ensures { ReportsListing (listing_report (match_of (options_of key_size index_size slot_capacity user_version ordered role) image.now offset bits pattern.now skip limit numbers.old) numbers.old results.old) result numbers.new results.new }
 {
     if results.len() < LISTING_RESULTS {
-        return TOO_SHORT;
+        return Refusal::TooShort.number();
     }
     let o = Options {
         key_size,
@@ -296,8 +322,5 @@ pub extern "C" fn slc1_match_results(
         role,
     };
     let selected = match_bits(image, o, offset, bits, pattern, skip, limit, numbers);
-    let answer = selected.answer as u64;
-    let all = [answer, selected.total, selected.written];
-    write_over(results, &all);
-    selected.answer
+    report_listing(selected, results)
 }

@@ -2,13 +2,52 @@
 ghost use Rattle.std.specs.Prelude.{◌≡◌};
 ghost use Rattle.host.specs.Options.{options_of};
 ghost use Rattle.host.specs.Results.{Reports, lookup_report};
-ghost use Rattle.image.specs.Lookup.{lookup_of};
+ghost use Rattle.image.specs.Lookup.{looked, lookup_of};
 
 use crate::results::{LOOKUP_RESULTS, word_of};
-use header::answer::TOO_SHORT;
 use header::options::Options;
-use image::lookup::look_up;
-use numbers::parts::write_over;
+use header::refusal::{DONE, Refusal};
+use image::lookup::{Entry, Found, look_up};
+use numbers::parts::copy_to;
+
+// The number that C is given of a lookup.
+fn number_in(found: Result<Found, Refusal>) -> u32
+    ensures { result ≡ (looked found).answer }
+{
+    match found {
+        Ok(Found { entry: Some(_), .. }) => DONE,
+        Ok(Found { entry: None, .. }) => Refusal::NotPresent.number(),
+        Err(refusal) => refusal.number(),
+    }
+}
+
+// The entry of a key that is found, else zeros.
+fn entry_in(found: Result<Found, Refusal>) -> Entry
+    ensures { result ≡ record { slot = (looked found).slot; revision = (looked found).revision } }
+{
+    match found {
+        Ok(
+            Found {
+                entry: Some(entry),
+                ..
+            },
+        ) => entry,
+        _ => Entry {
+            slot: 0,
+            revision: 0,
+        },
+    }
+}
+
+// The number of buckets examined, 0 where the lookup is refused.
+fn buckets_in(found: Result<Found, Refusal>) -> u64
+    ensures { result ≡ (looked found).buckets }
+{
+    match found {
+        Ok(Found { buckets, .. }) => buckets,
+        Err(_) => 0,
+    }
+}
 
 // 0 found, 9 not present, or the number that refuses the call.
 #[unsafe(no_mangle)]
@@ -36,7 +75,7 @@ pub extern "C" fn slc1_lookup(
         },
         key,
     );
-    found.answer
+    number_in(found)
 }
 
 // The slot of a key that is found, else 0.
@@ -65,7 +104,7 @@ pub extern "C" fn slc1_lookup_slot(
         },
         key,
     );
-    found.slot
+    entry_in(found).slot
 }
 
 // The revision of a key that is found, else 0.
@@ -82,7 +121,7 @@ pub extern "C" fn slc1_lookup_revision(
 ) -> i64
     ensures { result ≡ (lookup_of (options_of key_size index_size slot_capacity user_version ordered role) image.now key.now).revision }
 {
-    let entry = look_up(
+    let looked = look_up(
         image,
         Options {
             key_size,
@@ -94,7 +133,7 @@ pub extern "C" fn slc1_lookup_revision(
         },
         key,
     );
-    entry.revision
+    entry_in(looked).revision
 }
 
 // The number of buckets examined for a key that is found or not present, else 0.
@@ -123,7 +162,7 @@ pub extern "C" fn slc1_lookup_buckets(
         },
         key,
     );
-    found.buckets
+    buckets_in(found)
 }
 
 // Writes the answer, the slot, the revision as a word of two's complement and the number of buckets to the start of a lent list,
@@ -143,7 +182,7 @@ pub extern "C" fn slc1_lookup_results(
     ensures { Reports (lookup_report (lookup_of (options_of key_size index_size slot_capacity user_version ordered role) image.now key.now) results.old) result results.new }
 {
     if results.len() < LOOKUP_RESULTS {
-        return TOO_SHORT;
+        return Refusal::TooShort.number();
     }
     let o = Options {
         key_size,
@@ -154,9 +193,11 @@ pub extern "C" fn slc1_lookup_results(
         role,
     };
     let looked_up = look_up(image, o, key);
-    let answer = looked_up.answer as u64;
-    let revision = word_of(looked_up.revision);
-    let all = [answer, looked_up.slot, revision, looked_up.buckets];
-    write_over(results, &all);
-    looked_up.answer
+    let answer = number_in(looked_up);
+    let entry = entry_in(looked_up);
+    let revision = word_of(entry.revision);
+    let buckets = buckets_in(looked_up);
+    let all = [u64::from(answer), entry.slot, revision, buckets];
+    copy_to(results, 0, &all);
+    answer
 }

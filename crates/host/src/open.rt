@@ -4,9 +4,9 @@ ghost use Rattle.host.specs.Options.{options_of};
 ghost use Rattle.header.specs.Open.{open_of};
 ghost use Rattle.host.specs.UserData.{Fills, user_data_of};
 
-use header::answer::{DONE, TOO_SHORT};
 use header::open::{USER_DATA_SIZE, open_check};
 use header::options::Options;
+use header::refusal::{DONE, Refusal, number_of};
 use numbers::parts::copy_to;
 
 // The header test: 0, or the number that refuses the image.
@@ -33,10 +33,11 @@ pub extern "C" fn slc1_open_check(
             role,
         },
     );
-    opened.answer
+    number_of(&opened)
 }
 
 // The user flags where the open check answers 0, else 0.
+#[tactic(auto, unfolding(header::specs::Open::no_fields))]
 #[unsafe(no_mangle)]
 pub extern "C" fn slc1_user_flags(
     image: &[u8],
@@ -60,8 +61,10 @@ pub extern "C" fn slc1_user_flags(
             role,
         },
     );
-    let fields = opened.fields;
-    fields.user_flags
+    match opened {
+        Ok(fields) => fields.user_flags,
+        Err(_) => 0,
+    }
 }
 
 // Writes the 64 bytes of user data to the start of a lent buffer: the open check's number, then 11 where the buffer is shorter than
@@ -90,14 +93,14 @@ pub extern "C" fn slc1_user_data(
             role,
         },
     );
-    if opened.answer != DONE {
-        return opened.answer;
+    match opened {
+        Ok(fields) => {
+            if out.len() < USER_DATA_SIZE {
+                return Refusal::TooShort.number();
+            }
+            copy_to(out, 0, &fields.user_data);
+            DONE
+        }
+        Err(refusal) => refusal.number(),
     }
-    if out.len() < USER_DATA_SIZE {
-        return TOO_SHORT;
-    }
-    let fields = opened.fields;
-    let bytes = fields.user_data;
-    copy_to(out, 0, &bytes);
-    DONE
 }

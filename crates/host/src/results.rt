@@ -1,4 +1,4 @@
-// All numbers of a call, written to a lent list.
+// All numbers of a call, written to a lent list. Here and in all of this crate an answer is a number: it is what C is given.
 ghost use Rattle.std.specs.Prelude.{◌≡◌};
 ghost use Rattle.host.specs.Results.{word_of};
 
@@ -13,9 +13,5 @@ pub const LISTING_RESULTS: usize = 3;
 pub fn word_of(x: i64) -> u64
     ensures { result ≡ word_of x }
 {
-    if x < 0 {
-        18446744073709551615 - ((-1 - x) as u64)
-    } else {
-        x as u64
-    }
+    x.cast_unsigned()
 }

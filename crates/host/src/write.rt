@@ -1,6 +1,6 @@
 // Create and the writing calls. Any number but 0 leaves every lent byte alone.
 ghost use Rattle.std.specs.Prelude.{◌≡◌};
-ghost use Rattle.header.specs.Answer.{invalid_input};
+ghost use Rattle.header.specs.Answer.{invalid_input, answer};
 ghost use Rattle.header.specs.HeaderTest.{header_test, after_test};
 ghost use Rattle.soundness.specs.Commit.{commit_of};
 ghost use Rattle.writing.specs.Create.{create_of};
@@ -10,12 +10,10 @@ ghost use Rattle.host.specs.Options.{options_of};
 ghost use Rattle.host.specs.UserData.{set_user_fields_from};
 
 use commit::commit::commit_batch;
-use header::answer::INVALID_INPUT;
 use header::judge::judge;
 use header::open::{USER_DATA_SIZE, UserFields};
 use header::options::Options;
-use header::shape::Judged;
-use numbers::parts::copy_to;
+use header::refusal::{Refusal, number_of};
 use writing::create::create;
 use writing::state::{begin, checkpoint, invalidate, set_user_fields};
 
@@ -32,7 +30,7 @@ pub extern "C" fn slc1_create(
 ) -> u32
     ensures { Leaves (create_of (options_of key_size index_size slot_capacity user_version ordered role) buffer.old) result buffer.new }
 {
-    create(
+    number_of(&create(
         buffer,
         Options {
             key_size,
@@ -42,7 +40,7 @@ pub extern "C" fn slc1_create(
             ordered,
             role,
         },
-    )
+    ))
 }
 
 // CLEAN becomes DIRTY; on DIRTY nothing changes.
@@ -58,7 +56,7 @@ pub extern "C" fn slc1_begin(
 ) -> u32
     ensures { Leaves (begin_of (options_of key_size index_size slot_capacity user_version ordered role) image.old) result image.new }
 {
-    begin(
+    number_of(&begin(
         image,
         Options {
             key_size,
@@ -68,7 +66,7 @@ pub extern "C" fn slc1_begin(
             ordered,
             role,
         },
-    )
+    ))
 }
 
 // DIRTY becomes CLEAN; on CLEAN nothing changes.
@@ -84,7 +82,7 @@ pub extern "C" fn slc1_checkpoint(
 ) -> u32
     ensures { Leaves (checkpoint_of (options_of key_size index_size slot_capacity user_version ordered role) image.old) result image.new }
 {
-    checkpoint(
+    number_of(&checkpoint(
         image,
         Options {
             key_size,
@@ -94,7 +92,7 @@ pub extern "C" fn slc1_checkpoint(
             ordered,
             role,
         },
-    )
+    ))
 }
 
 // CLEAN or DIRTY becomes INVALIDATED, for good.
@@ -110,7 +108,7 @@ pub extern "C" fn slc1_invalidate(
 ) -> u32
     ensures { Leaves (invalidate_of (options_of key_size index_size slot_capacity user_version ordered role) image.old) result image.new }
 {
-    invalidate(
+    number_of(&invalidate(
         image,
         Options {
             key_size,
@@ -120,17 +118,15 @@ pub extern "C" fn slc1_invalidate(
             ordered,
             role,
         },
-    )
+    ))
 }
 
-// What user data of another length are answered: the header test's number, and where the image passes 7.
-fn other_length(image: &[u8], o: Options) -> u32
-    ensures { result ≡ after_test (header_test o image.now) invalid_input (λ n. n) }
+// Why user data of another length are refused: what the header test says, and where the image passes 7.
+fn other_length(image: &[u8], o: Options) -> Result<(), Refusal>
+    ensures { answer result ≡ after_test (header_test o image.now) invalid_input (λ n. n) }
 {
-    match judge(image, o) {
-        Judged::Fit(_) => INVALID_INPUT,
-        Judged::Refused(number) => number,
-    }
+    judge(image, o)?;
+    Err(Refusal::InvalidInput)
 }
 
 // Replaces user_flags and user_data. The data are exactly 64 bytes: 7 otherwise, after the header test.
@@ -157,18 +153,18 @@ pub extern "C" fn slc1_set_user_fields(
         role,
     };
     if user_data.len() != USER_DATA_SIZE {
-        return other_length(image, o);
+        return number_of(&other_length(image, o));
     }
     let mut bytes = [0u8; USER_DATA_SIZE];
-    copy_to(&mut bytes, 0, user_data);
-    set_user_fields(
+    bytes.copy_from_slice(user_data);
+    number_of(&set_user_fields(
         image,
         o,
         UserFields {
             user_flags,
             user_data: bytes,
         },
-    )
+    ))
 }
 
 // Commits a batch: 0, or the number of the first reason that refuses it, every byte then left alone.
@@ -185,7 +181,7 @@ pub extern "C" fn slc1_commit(
 ) -> u32
     ensures { Leaves (commit_of (options_of key_size index_size slot_capacity user_version ordered role) image.old batch.now) result image.new }
 {
-    commit_batch(
+    number_of(&commit_batch(
         image,
         Options {
             key_size,
@@ -196,5 +192,5 @@ pub extern "C" fn slc1_commit(
             role,
         },
         batch,
-    )
+    ))
 }

@@ -17,10 +17,9 @@ use Rattle.probing.proofs.SumLaw.{sum_law}
 use Rattle.header.specs.declared.options.Options.{Options}
 use Rattle.header.specs.HeaderTest.{header_test, shape_of, after_test}
 use Rattle.header.specs.Shaped.{Shaped}
-use Rattle.header.proofs.Fit.{judged_fit, fit_shaped}
-use Rattle.image.specs.declared.check.Checked.{Checked}
+use Rattle.header.proofs.Fit.{fit_shaped}
 use Rattle.image.specs.Table.{table_of}
-use Rattle.image.specs.Check.{failed, passes, check_in, check_of}
+use Rattle.image.specs.Check.{Checked, failed, passes, check_in, check_of}
 use Rattle.image.proofs.Passes.{check_passed, answer_passes}
 
 -- the table of an image, by its own header
@@ -49,7 +48,7 @@ module _ (o : Options) (image : List ℕ) where
   passes_whole h e =
       let s = shape_of image in
       let p = checks_passed (its_table image) s.layout.ordered s.live_count s.live_count s.bucket_tombstones e in
-      let few = fewer (fit_shaped o image s (judged_fit o image h)) in
+      let few = fewer (fit_shaped o image h) in
       record {
         header = h;
         sound = passed_sound (its_table image) s.layout.ordered s.live_count s.live_count s.bucket_tombstones p refl few;

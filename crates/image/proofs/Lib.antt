@@ -5,3 +5,4 @@ pub mod Passes
 pub mod Places
 pub mod BucketSays
 pub mod Tally
+pub mod Way

@@ -8,6 +8,7 @@ use native.Mathlib.Omega.{arith}
 use lib.Dec.{eqb}
 use lib.ListN.{length}
 use borrow.Author.Tests.{eq-eqb, ne_eqb}
+use Rattle.std.specs.Prelude.{Result, Ok, Err, IsErrAnd, IfErr}
 use Rattle.probing.specs.Probe.{Probed, found, absent, broken}
 use Rattle.probing.specs.Report.{report}
 use Rattle.probing.specs.Sound.{Sound}
@@ -15,19 +16,18 @@ use Rattle.probing.proofs.Keys.{not_both}
 use Rattle.probing.proofs.Reading.{never_broken}
 use Rattle.probing.proofs.Reading.Ends.{found_run}
 use Rattle.header.specs.declared.shape.Shape.{Shape}
+use Rattle.header.specs.declared.refusal.Refusal.{Refusal}
 use Rattle.header.specs.declared.options.Options.{Options}
-use Rattle.header.specs.declared.shape.Judged.TheVariants.{Fit, Refused}
-use Rattle.header.specs.Answer.{done, invalid_input}
-use Rattle.header.specs.HeaderTest.{judged}
-use Rattle.header.proofs.Fit.{fit_shape}
-use Rattle.image.specs.declared.lookup.Lookup.{Lookup}
+use Rattle.header.specs.Answer.{done, invalid_input, number}
+use Rattle.header.specs.HeaderTest.{header_test, shape_of}
+use Rattle.header.proofs.After.{after_done, after_refusal}
+use Rattle.image.specs.declared.lookup.Found as code
 use Rattle.image.specs.declared.probe.Probe.{Probe}
 use Rattle.image.specs.declared.probe.Report.{Report}
 use Rattle.image.specs.declared.probe.Probe.TheVariants.{Found, Absent, Broken}
 use Rattle.image.specs.Table.{table_of, index_of}
-use Rattle.image.specs.Lookup.{probe_of, is_found, is_live, nothing, lookup_by, lookup_in, lookup_of, index_part}
+use Rattle.image.specs.Lookup.{Lookup, probe_of, is_found, is_live, nothing, looked, lookup_by, lookup_in, lookup_of, index_part}
 use Rattle.image.specs.Told.{told, report_of}
-use Rattle.image.proofs.Judging.{after_fit, after_refused}
 
 -- what the code tells of a probe's end is that end
 abbrev pub heard : Probe → Probed
@@ -65,9 +65,9 @@ module _ (s : Shape) (image key : List ℕ) where
   looked_by e p q = rw (eq-eqb (length key) s.layout.key_size e, q)
 
   -- the slot that lookup gives with 0 is below highwater
-  pub looked_below : (lookup_in s image key).answer ≡ done → (lookup_in s image key).slot < s.slot_highwater
+  pub looked_below : (l : Lookup) → l ≡ lookup_in s image key → l.answer ≡ done → l.slot < s.slot_highwater
   unfolding lookup_in
-  looked_below e = go (eqb (length key) s.layout.key_size) (probe_of s image key) refl e
+  looked_below l q e = rw q (go (eqb (length key) s.layout.key_size) (probe_of s image key) refl (rw q at e))
     where
       go : (equal : Bool) (p : Probed) → probe_of s image key ≡ p → (cond equal (lookup_by s image p) (nothing invalid_input)).answer ≡ done
           → (cond equal (lookup_by s image p) (nothing invalid_input)).slot < s.slot_highwater
@@ -78,24 +78,35 @@ module _ (s : Shape) (image key : List ℕ) where
 
 module _ (o : Options) (image key : List ℕ) where
   -- lookup after the header test
-  pub looked_fit : (s : Shape) → judged o image ≡ Fit s → lookup_in s image key ≡ lookup_of o image key
+  pub looked_fit : done ≡ header_test o image → lookup_in (shape_of image) image key ≡ lookup_of o image key
   unfolding lookup_of
-  looked_fit s e = after_fit (λ s. lookup_in s image key) nothing o image s e
+  looked_fit passing = after_done (header_test o image) (lookup_in (shape_of image) image key) nothing passing
 
-  pub looked_refused : (n : ℕ) → judged o image ≡ Refused n → nothing n ≡ lookup_of o image key
+  pub looked_refused :
+      (x : Result code.Found Refusal) (r : Refusal) → IsErrAnd x (λ y. y ≡ r) → number r ≡ header_test o image
+      → looked x ≡ lookup_of o image key
   unfolding lookup_of
-  looked_refused n e = after_refused (λ s. lookup_in s image key) nothing o image n e
+  looked_refused (Ok f) r same refused = elim same [ ]
+  looked_refused (Err e) r same refused =
+      ap (λ (r : Refusal). nothing (number r)) same ∙ after_refusal (header_test o image) _ nothing r refused
 
   -- the index of the slot found, or none
   pub index_found :
-      (s : Shape) → judged o image ≡ Fit s → (l : Lookup) → l ≡ lookup_of o image key → l.answer ≡ done
-      → index_of s.layout image l.slot ≡ index_part o image key
+      (l : Lookup) → l ≡ lookup_of o image key → l.answer ≡ done
+      → index_of (shape_of image).layout image l.slot ≡ index_part o image key
   unfolding index_part
-  index_found s e l q z = rw (← fit_shape o image s e, ← q, eq-eqb l.answer done z)
+  index_found l q z = rw (← q, eq-eqb l.answer done z)
 
   pub index_none : (l : Lookup) → l ≡ lookup_of o image key → (l.answer ≡ done → ⊥) → [] ≡ index_part o image key
   unfolding index_part
   index_none l q other = rw (← q, ne_eqb l.answer done other)
+
+  -- and so where the code returns why there is none
+  pub no_index :
+      {A : Type 0} (x : Result A Refusal) (l : Lookup) → l ≡ lookup_of o image key → (l.answer ≡ done → ⊥)
+      → IfErr x (λ r. [] ≡ index_part o image key)
+  no_index (Ok a) l q other = tt
+  no_index (Err r) l q other = index_none l q other
 
 -- a key that is not live in a sound table is absent
 pub not_live : (s : Shape) (image : List ℕ) → Sound (table_of s image) → (key : List ℕ) → is_live s image key ≡ false

@@ -1,25 +1,28 @@
 -- Whether an image passes the full check, by what its buckets and slots say, and the answer for it.
 -- Assumes nothing.
 use Prim.Native.Nat.{ℕ}
-use mathlib.Core.Path.{◌≡◌, refl}
+use mathlib.Core.Path.{◌≡◌, refl, sym, ap, ◌∙◌}
 use mathlib.Core.Bool.{Bool, true, false, cond, not, ◌&&◌, ◌||◌}
 use mathlib.Core.List.{List}
-use borrow.Author.Tests.{eq-eqb}
+use borrow.Author.Tests.{eq-eqb, ne_eqb}
 use lib.Dec.{eqb}
+use Rattle.std.specs.Prelude.{Result, Ok, Err, IsErrAnd}
+use Rattle.std.specs.Result.{is_ok}
 use Rattle.probing.specs.Table.{live_count, full_count, tombstone_count}
 use Rattle.probing.specs.Check.{buckets_right, metas_right, each_found, counts_equal, never_fall, checks, probes}
 use Rattle.header.specs.declared.options.Options.{Options}
+use Rattle.header.specs.declared.refusal.Refusal.{Refusal}
 use Rattle.header.specs.declared.shape.Shape.{Shape}
-use Rattle.header.specs.declared.shape.Judged.TheVariants.{Fit, Refused}
-use Rattle.header.specs.HeaderTest.{judged}
-use Rattle.header.specs.Answer.{needs_rebuild}
-use Rattle.image.specs.declared.check.Checked.{Checked}
+use Rattle.header.specs.Answer.{needs_rebuild, number}
+use Rattle.header.specs.HeaderTest.{header_test}
+use Rattle.header.proofs.After.{after_refusal}
+use Rattle.header.proofs.Firsts.{number_not_done}
+use Rattle.image.specs.declared.check.Counts.{Counts}
 use Rattle.image.specs.declared.check.BucketTally.{BucketTally}
 use Rattle.image.specs.declared.check.SlotTally.{SlotTally}
 use Rattle.image.specs.Table.{table_of}
 use Rattle.image.specs.Tally.{buckets_to, slots_to}
-use Rattle.image.specs.Check.{failed, passes, check_in, check_of}
-use Rattle.image.proofs.Judging.{after_fit, after_refused}
+use Rattle.image.specs.Check.{Checked, failed, checked, passes, check_in, check_of}
 
 -- one of two answers, of which the first is 0 and the second is not
 chosen : (p : Bool) (y : Checked) → y.answer ≡ 0 → eqb (cond p y (failed needs_rebuild)).answer 0 ≡ p
@@ -60,12 +63,16 @@ module _ (s : Shape) (image : List ℕ) where
   unfolding check_in
   answer_passes = chosen (passes s image) _ refl
 
--- the full check after the header test
-module _ (o : Options) (image : List ℕ) where
-  pub checked_fit : (s : Shape) → judged o image ≡ Fit s → check_in s image ≡ check_of o image
-  unfolding check_of
-  checked_fit s e = after_fit (λ s. check_in s image) failed o image s e
+  -- and the code's is Ok
+  pub ok_passes : (r : Result Counts Refusal) → checked r ≡ check_in s image → is_ok r ≡ passes s image
+  ok_passes (Ok c) e = ap (λ (x : Checked). eqb x.answer 0) e ∙ answer_passes
+  ok_passes (Err r) e = sym (ne_eqb (number r) 0 (number_not_done r)) ∙ ap (λ (x : Checked). eqb x.answer 0) e ∙ answer_passes
 
-  pub checked_refused : (a : ℕ) → judged o image ≡ Refused a → failed a ≡ check_of o image
-  unfolding check_of
-  checked_refused a e = after_refused (λ s. check_in s image) failed o image a e
+-- the full check of an image that the header test refuses
+pub checked_refused :
+    (o : Options) (image : List ℕ) (x : Result Counts Refusal) (r : Refusal) → IsErrAnd x (λ y. y ≡ r) → number r ≡ header_test o image
+    → checked x ≡ check_of o image
+unfolding check_of
+checked_refused o image (Ok c) r same refused = elim same [ ]
+checked_refused o image (Err e) r same refused =
+    ap (λ (r : Refusal). failed (number r)) same ∙ after_refusal (header_test o image) _ failed r refused

@@ -7,7 +7,7 @@ use mathlib.Core.List.{List}
 use native.Mathlib.Nat.{add-zero}
 use native.Mathlib.Numerals.{add-one}
 use native.Mathlib.Omega.{arith}
-use borrow.Author.Tests.{lt-ltb, le-ltb, eq-eqb, ne_eqb}
+use borrow.Author.Tests.{lt-ltb, le-ltb, ne_eqb}
 use lib.Dec.{eqb}
 use Rattle.digests.specs.Fnv.{fnv1a64}
 use Rattle.probing.specs.Counting.{sum_to, count_to, all_to}
@@ -31,16 +31,10 @@ module _ (s : Shape) (image : List ℕ) (h n : ℕ) where
   unfolding table_of
   past_wrong l = rw (le-ltb n s.slot_highwater l)
 
-  module _ (l : n < s.slot_highwater) where
-    -- so is one that points at a slot that is not live
-    pub dead_wrong : (meta_of s.layout image n ≡ 1 → ⊥) → false ≡ bucket_right (table_of s image) (FULL h n)
-    unfolding table_of
-    dead_wrong m = rw (lt-ltb n s.slot_highwater l, ne_eqb (meta_of s.layout image n) 1 m)
-
-    -- at a live slot its key's hash decides
-    pub hash_decides : meta_of s.layout image n ≡ 1 → eqb h (fnv1a64 (key_of s.layout image n)) ≡ bucket_right (table_of s image) (FULL h n)
-    unfolding table_of
-    hash_decides m = rw (lt-ltb n s.slot_highwater l, eq-eqb (meta_of s.layout image n) 1 m)
+  -- below highwater the slot's meta and its key's hash decide
+  pub meta_decides : n < s.slot_highwater → eqb (meta_of s.layout image n) 1 && eqb h (fnv1a64 (key_of s.layout image n)) ≡ bucket_right (table_of s image) (FULL h n)
+  unfolding table_of
+  meta_decides l = rw (lt-ltb n s.slot_highwater l)
 
 -- the tally of the buckets below n + 1, by what bucket n is
 module _ (t : Table) (n : ℕ) (y : BucketTally) (e : y ≡ buckets_to t n) where

@@ -1,7 +1,6 @@
 pub mod Check
 pub mod Lookup
 pub mod Places
-pub mod Step
 pub mod Table
 pub mod Tally
 pub mod Told

@@ -1,12 +1,14 @@
 -- "Lookup."
 -- Assumes nothing.
-use Rattle.std.specs.Prelude.{ℕ, Bool, true, false, cond, List, [], eqb, pos, length}
+use Rattle.std.specs.Prelude.{ℕ, Bool, true, false, cond, List, [], eqb, ℤ, pos, length, Option, Some, None, Result, Ok, Err}
 use Rattle.probing.specs.Probe.{Probed, found, absent, broken, probe}
+use Rattle.header.specs.declared.refusal.Refusal.{Refusal}
 use Rattle.header.specs.declared.options.Options.{Options}
 use Rattle.header.specs.declared.shape.Shape.{Shape}
-use Rattle.header.specs.Answer.{done, needs_rebuild, invalid_input, not_present}
+use Rattle.header.specs.Answer.{done, needs_rebuild, invalid_input, not_present, number}
 use Rattle.header.specs.HeaderTest.{header_test, shape_of, after_test}
-use Rattle.image.specs.declared.lookup.Lookup.{Lookup}
+use Rattle.image.specs.declared.lookup.Entry.{Entry}
+use Rattle.image.specs.declared.lookup.Found.{Found}
 use Rattle.image.specs.Table.{table_of, revision_of, index_of}
 
 -- the probe of a key in an image
@@ -22,9 +24,25 @@ is_found broken = false
 unfoldable pub is_live : Shape → List ℕ → List ℕ → Bool
 is_live s image key = is_found (probe_of s image key)
 
+-- the number given back, and the numbers beside it
+pub record Lookup : Type 0 where
+  pub answer : ℕ
+  pub slot : ℕ
+  pub revision : ℤ
+  pub buckets : ℕ
+
 -- "all else returned is 0"
 abbrev pub nothing : ℕ → Lookup
 nothing answer = record { answer = answer; slot = 0; revision = pos 0; buckets = 0 }
+
+-- the numbers of what the code finds, and of what it returns
+abbrev pub entered : Option Entry → ℕ → Lookup
+entered (Some e) count = record { answer = done; slot = e.slot; revision = e.revision; buckets = count }
+entered None count = record { answer = not_present; slot = 0; revision = pos 0; buckets = count }
+
+abbrev pub looked : Result Found Refusal → Lookup
+looked (Ok f) = entered f.entry f.buckets
+looked (Err r) = nothing (number r)
 
 -- "EMPTY: 9. ... found, else 1. B buckets without end: 1. The count includes the last bucket. Found gives slot, revision and
 -- the index bytes"; "9 carries its bucket count"

@@ -1,37 +1,27 @@
 // Lookup: the slot, the revision and the index of a key.
-ghost use Rattle.std.specs.Prelude.{◌≡◌};
-ghost use Rattle.header.specs.Shaped.{Shaped};
-ghost use Rattle.image.specs.Lookup.{nothing, lookup_in, lookup_of, index_part};
+ghost use Rattle.std.specs.Prelude.{◌≡◌, [], IfOk, IfErr};
+ghost use Rattle.image.specs.Lookup.{looked, lookup_in, lookup_of, index_part};
 ghost use Rattle.image.specs.Told.{Hashed};
 
-use crate::probe::{Probe, probe_hashed};
-use crate::table::{index_of, revision_of};
+use crate::probe::Probe;
+use crate::table::Image;
 use digests::fnv::fnv1a64_of;
-use header::answer::{DONE, INVALID_INPUT, NEEDS_REBUILD, NOT_PRESENT};
-use header::judge::judge;
 use header::options::Options;
-use header::shape::{Judged, Shape};
+use header::refusal::Refusal;
 use header::sizes::MOST_KEY_SIZE;
 
-// answer: 0 with the slot, its revision and the number of buckets examined; 9 with that number alone; else all zero.
-#[derive(Drop)]
-pub struct Lookup {
-    pub answer: u32,
+// Where a key is, and its revision.
+#[derive(Clone, Copy)]
+pub struct Entry {
     pub slot: u64,
     pub revision: i64,
-    pub buckets: u64,
 }
 
-// A refusal: all else returned is 0.
-fn refused(answer: u32) -> Lookup
-    ensures { result ≡ nothing answer }
-{
-    Lookup {
-        answer: answer,
-        slot: 0,
-        revision: 0,
-        buckets: 0,
-    }
+// What lookup found: a key's entry, or none where it is not there; and the number of buckets examined.
+#[derive(Clone, Copy)]
+pub struct Found {
+    pub entry: Option<Entry>,
+    pub buckets: u64,
 }
 
 // The hash of a key. What is longer than any key is refused, and not read.
@@ -44,70 +34,63 @@ fn hash_of(key: &[u8]) -> u64
     fnv1a64_of(key)
 }
 
-// Lookup in an image that passed the header test, of a key with this hash.
-fn lookup_hashed(image: &[u8], s: Shape, key: &[u8], hash: u64) -> Lookup
-    requires shaped { Shaped s image.now }
-    requires hashed { Hashed hash key.now }
-    ensures { result ≡ lookup_in s image.now key.now }
-{
-    if key.len() != s.layout.key_size {
-        return refused(INVALID_INPUT);
-    }
-    let probed = probe_hashed(image, s, key, hash).end;
-    match probed {
-        Probe::Found { slot, buckets } => {
-            let revision = revision_of(image, s.layout, slot);
-            Lookup {
-                answer: DONE,
-                slot: slot as u64,
-                revision: revision,
-                buckets: buckets as u64,
-            }
+impl Image<'_> {
+    // Lookup of a key with this hash.
+    fn lookup_hashed(&self, key: &[u8], hash: u64) -> Result<Found, Refusal>
+        requires { Hashed hash key.now }
+        ensures { looked result ≡ lookup_in self.now.shape self.now.bytes.now key.now }
+    {
+        if key.len() != self.shape.layout.key_size {
+            return Err(Refusal::InvalidInput);
         }
-        Probe::Absent { buckets } => Lookup {
-            answer: NOT_PRESENT,
-            slot: 0,
-            revision: 0,
-            buckets: buckets as u64,
-        },
-        Probe::Broken => refused(NEEDS_REBUILD),
+        match self.probe_hashed(key, hash).end {
+            Probe::Found { slot, buckets } => Ok(Found {
+                entry: Some(Entry {
+                    slot: slot as u64,
+                    revision: self.revision_of(slot),
+                }),
+                buckets: buckets as u64,
+            }),
+            Probe::Absent { buckets } => Ok(Found {
+                entry: None,
+                buckets: buckets as u64,
+            }),
+            Probe::Broken => Err(Refusal::NeedsRebuild),
+        }
+    }
+
+    // Lookup of a key.
+    fn lookup_in(&self, key: &[u8]) -> Result<Found, Refusal>
+        ensures { looked result ≡ lookup_in self.now.shape self.now.bytes.now key.now }
+    {
+        self.lookup_hashed(key, hash_of(key))
     }
 }
 
-// Lookup in an image that passed the header test.
-fn lookup_in(image: &[u8], s: Shape, key: &[u8]) -> Lookup
-    requires { Shaped s image.now }
-    ensures { result ≡ lookup_in s image.now key.now }
-{
-    lookup_hashed(image, s, key, hash_of(key))
-}
-
-// Lookup: the header test, the key's length, then the probe. The key is hashed first: neither hash nor test needs the other, and a
-// processor goes on with both at once.
-pub fn look_up(image: &[u8], o: Options, key: &[u8]) -> Lookup
-    ensures { result ≡ lookup_of o image.now key.now }
+// Lookup: the header test, the key's length, then the probe. A key that is not there is no refusal. The key is hashed first: neither
+// hash nor test needs the other, and a processor goes on with both at once.
+#[tactic(auto, using(crate::proofs::Judging::after_open, crate::proofs::Looked::looked_refused), unfolding(crate::specs::Lookup::lookup_of))]
+pub fn look_up(image: &[u8], o: Options, key: &[u8]) -> Result<Found, Refusal>
+    ensures { looked result ≡ lookup_of o image.now key.now }
 {
     let hash = hash_of(key);
-    let judged = judge(image, o);
-    match judged {
-        Judged::Fit(s) => lookup_hashed(image, s, key, hash),
-        Judged::Refused(answer) => refused(answer),
-    }
+    Image::open(image, o)?.lookup_hashed(key, hash)
 }
 
-// The index of a key's slot: the caller's own bytes in the image, or none where lookup answers otherwise than 0.
+// The index of a key that is there, or why there is none.
+fn index_found<'a>(image: &'a [u8], o: Options, key: &[u8]) -> Result<&'a [u8], Refusal>
+    ensures found { IfOk result (λ index. index.now ≡ index_part o image.now key.now) }
+    ensures none { IfErr result (λ r. [] ≡ index_part o image.now key.now) }
+{
+    let fit = Image::open(image, o)?;
+    let found = fit.lookup_in(key)?;
+    let entry = found.entry.ok_or(Refusal::NotPresent)?;
+    Ok(fit.index_of(entry.slot as usize))
+}
+
+// The index of a key's slot: the caller's own bytes in the image, or none where lookup finds no entry.
 pub fn index_part<'a>(image: &'a [u8], o: Options, key: &[u8]) -> &'a [u8]
     ensures { result.now ≡ index_part o image.now key.now }
 {
-    let judged = judge(image, o);
-    match judged {
-        Judged::Fit(s) => {
-            let found = lookup_in(image, s, key);
-            if found.answer == DONE {
-                return index_of(image, s.layout, found.slot as usize);
-            }
-            &image[0..0]
-        }
-        Judged::Refused(answer) => &image[0..0],
-    }
+    index_found(image, o, key).unwrap_or(&[])
 }

@@ -1,6 +1,6 @@
 pub mod Filling
 pub mod Listing
-pub mod Next
+pub mod Numbers
 pub mod Passing
 pub mod Pattern
 pub mod SameBits

@@ -6,8 +6,12 @@ use mathlib.Core.List.{List, [], ◌∷◌, ◌++◌}
 use native.Mathlib.Omega.{arith}
 use lib.ListN.{length, take, drop, length-drop, length-take}
 use borrow.Author.Tests.{lt-ltb, le-ltb}
-use Rattle.listing.specs.declared.listed.Listed.{Listed}
-use Rattle.header.specs.Answer.{done, too_short}
+use Rattle.std.specs.Prelude.{Bool, true, false, Result, Ok, Err, IsErrAnd}
+use Rattle.header.specs.declared.refusal.Refusal.{Refusal}
+use Rattle.header.specs.Answer.{done, number, too_short}
+use Rattle.header.specs.FirstOf.{first_of}
+use Rattle.header.proofs.Firsts.{number_not_done}
+use Rattle.listing.specs.declared.listed.Listing.{Listing}
 use Rattle.listing.specs.Scan.{Outcome, Lists, refused, chosen, write, list}
 
 -- no more can be taken than there are
@@ -20,8 +24,20 @@ take_min (suc n) (x ∷ xs) =
 
 -- what a call leaves that an outcome says, an equal outcome says
 pub same_outcome :
-    {r : Listed} {l : List ℕ} {o p : Outcome} → p ≡ o → Lists p r l → Lists o r l
-same_outcome e h = (h.0 ∙ ap (λ (x : Outcome). x.listed) e, h.1 ∙ ap (λ (x : Outcome). x.numbers) e)
+    (r : Result Listing Refusal) {l : List ℕ} {o p : Outcome} → p ≡ o → Lists p r l → Lists o r l
+same_outcome r e h = (h.0 ∙ ap (λ (x : Outcome). x.listed) e, h.1 ∙ ap (λ (x : Outcome). x.numbers) e)
+
+-- what a call leaves that is refused by `?`
+pub says_refused : (numbers : List ℕ) (r : Result Listing Refusal) (e : Refusal) → IsErrAnd r (λ y. y ≡ e) → {n : ℕ} → number e ≡ n
+    → Lists (refused numbers n) r numbers
+says_refused numbers (Ok l) e is h = absurd is
+says_refused numbers (Err y) e is h = rw (is, h) (refl, refl)
+
+-- a test that refused holds, and gave its number
+pub test_refused : (t : Bool) (n : ℕ) (e : Refusal) → number e ≡ first_of ((t, n) ∷ []) → (t ≡ true) × (number e ≡ n)
+unfolding first_of
+test_refused true n e h = (refl, h)
+test_refused false n e h = absurd (number_not_done e h)
 
 -- a listing that is accepted: `count` numbers after the skip, of `total`
 abbrev pub accepted : List ℕ → ℕ → List ℕ → ℕ → ℕ → Outcome

@@ -3,11 +3,14 @@
 use Prim.Native.Nat.{ℕ, zero, suc, ◌+◌, ◌-◌, ◌≤◌}
 use mathlib.Core.Bool.{Bool, true, false, cond}
 use mathlib.Core.Path.{◌≡◌, refl, sym, ◌∙◌, ap}
-use mathlib.Core.List.{List, [], ◌∷◌, ◌++◌, append-nil, append_assoc}
+use mathlib.Core.List.{List, [], ◌∷◌, ◌++◌, map, append-nil, append_assoc}
 use native.Mathlib.Nat.{add-zero, add-suc}
 use native.Mathlib.Numerals.{add-one}
 use native.Mathlib.Omega.{arith}
 use lib.ListN.{length, length-append}
+use Rattle.std.specs.List.{filter, range_with_len}
+use Rattle.std.proofs.lemmas.List.{map-id}
+use Rattle.std.proofs.lemmas.List.FromFn.{filter_of_map_range_with_len_more}
 use Rattle.listing.specs.Scan.{passing}
 
 -- a choice of one number or none
@@ -16,15 +19,6 @@ at_most_one n true = omega arith
 at_most_one n false = omega arith
 
 module _ (p : ℕ → Bool) where
-  -- the list with the next number, where that passes, and where not
-  pub passing_yes : (n : ℕ) → p n ≡ true → passing (n + 1) p ≡ passing n p ++ (n ∷ [])
-  unfolding passing
-  passing_yes n e = rw (add-one n, e) refl
-
-  pub passing_no : (n : ℕ) → p n ≡ false → passing (n + 1) p ≡ passing n p
-  unfolding passing
-  passing_no n e = rw (add-one n, e) (append-nil _)
-
   -- numbers more only add at the end
   passing_add : (n k : ℕ) → (rest : List ℕ) × (passing (n + k) p ≡ passing n p ++ rest)
   unfolding passing
@@ -39,6 +33,18 @@ module _ (p : ℕ → Bool) where
       let r = passing_add n (m - n) in
       let e : m ≡ n + (m - n) = omega arith in
       (r.0, ap (λ (k : ℕ). passing k p) e ∙ r.1)
+
+  -- they are what a filter keeps of the numbers
+  passing_kept : (n : ℕ) → passing n p ≡ filter p (map (λ (k : ℕ). k) (range_with_len 0 n))
+  unfolding passing
+  passing_kept zero = refl
+  passing_kept (suc n) =
+      ap (λ (l : List ℕ). l ++ cond (p n) (n ∷ []) []) (passing_kept n)
+      ∙ sym (filter_of_map_range_with_len_more p (λ (k : ℕ). k) 0 n n (omega arith))
+      ∙ ap (λ (k : ℕ). filter p (map (λ (k : ℕ). k) (range_with_len 0 k))) (add-one n)
+
+  pub passing_filter : (n : ℕ) → passing n p ≡ filter p (range_with_len 0 n)
+  passing_filter n = passing_kept n ∙ ap (filter p) (map-id (range_with_len 0 n))
 
   -- at most as many pass as there are
   pub passing_le : (n : ℕ) → length (passing n p) ≤ n

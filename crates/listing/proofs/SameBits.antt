@@ -3,7 +3,7 @@
 use Prim.Native.Nat.{ℕ, zero, suc, ◌+◌, ◌*◌, ◌-◌, ◌/◌, ◌%◌, ◌^◌, ◌≤◌, ◌<◌}
 use mathlib.Core.Bool.{Bool, true, false, ◌&&◌}
 use mathlib.Core.Path.{◌≡◌, refl, sym, ◌∙◌, ap, ap₂}
-use mathlib.Core.List.{List}
+use mathlib.Core.List.{List, [], ◌∷◌}
 use native.Mathlib.Nat.{add-zero, add-suc, div-one}
 use native.Mathlib.Numerals.{add-one}
 use native.Mathlib.Omega.{arith}
@@ -12,6 +12,7 @@ use lib.ListN.{length, get_or, take, drop}
 use lib.Pow.{shr-shr}
 use lib.Seq.{get_or-drop, drop-cons, take-length}
 use borrow.Author.Tests.{eqb-true, eqb-false, eq-eqb, ne_eqb}
+use Rattle.std.specs.Str.{bytes_eq}
 use Rattle.numbers.specs.Bytes.{Bytes, part, same}
 use Rattle.probing.specs.Counting.{all_to}
 use Rattle.listing.specs.Match.{bit_at, agrees}
@@ -72,16 +73,16 @@ same_upper x y (suc n) hx hy h =
     ∙ sym (eq_halves (x / 2 ^ (7 - n)) (y / 2 ^ (7 - n)))
     ∙ ap (λ (k : ℕ). eqb (x / 2 ^ k) (y / 2 ^ k)) (omega arith)
 
--- the bits of the byte at i, and those after it
+-- the bits of the byte at i, and those after n bytes
 bit_first : (xs : List ℕ) (i k : ℕ) → k < 8 → bit_at (drop i xs) k ≡ bit (get_or xs i 0) k
 unfolding bit_at bit
 bit_first xs i k h =
     rw (get_or-drop i xs (k / 8) 0) (ap₂ (λ (a b : ℕ). get_or xs a 0 / 2 ^ (7 - b) % 2) (omega arith) (omega arith))
 
-bit_rest : (xs : List ℕ) (i k : ℕ) → bit_at (drop i xs) (8 + k) ≡ bit_at (drop (i + 1) xs) k
+bits_rest : (xs : List ℕ) (i n k : ℕ) → bit_at (drop i xs) (8 * n + k) ≡ bit_at (drop (i + n) xs) k
 unfolding bit_at
-bit_rest xs i k =
-    rw (get_or-drop i xs ((8 + k) / 8) 0, get_or-drop (i + 1) xs (k / 8) 0)
+bits_rest xs i n k =
+    rw (get_or-drop i xs ((8 * n + k) / 8) 0, get_or-drop (i + n) xs (k / 8) 0)
     (ap₂ (λ (a b : ℕ). get_or xs a 0 / 2 ^ (7 - b) % 2) (omega arith) (omega arith))
 
 -- lists compared from a place of each on, where the bytes at these places decide
@@ -104,19 +105,7 @@ module _ (xs ys : List ℕ) (i j : ℕ) (hx : get_or xs i 0 < 256) (hy : get_or 
   same_step n =
       all_add 8 n _
       ∙ ap₂ ◌&&◌ (same_last 8 (omega arith) ∙ ap₂ eqb (div-one (get_or xs i 0)) (div-one (get_or ys j 0)))
-      (all_same n _ _ (λ k l. ap₂ eqb (bit_rest xs i k) (bit_rest ys j k)))
-
-  pub same_on :
-      (n : ℕ) → 8 ≤ n → get_or xs i 0 ≡ get_or ys j 0
-      → same_bits n (drop i xs) (drop j ys) ≡ same_bits (n - 8) (drop (i + 1) xs) (drop (j + 1) ys)
-  same_on n h e =
-      ap (λ (k : ℕ). same_bits k (drop i xs) (drop j ys)) (omega arith)
-      ∙ same_step (n - 8) ∙ ap (λ (t : Bool). t && same_bits (n - 8) (drop (i + 1) xs) (drop (j + 1) ys)) (eq-eqb _ _ e)
-
-  pub same_off : (n : ℕ) → 8 ≤ n → (get_or xs i 0 ≡ get_or ys j 0 → ⊥) → same_bits n (drop i xs) (drop j ys) ≡ false
-  same_off n h d =
-      ap (λ (k : ℕ). same_bits k (drop i xs) (drop j ys)) (omega arith)
-      ∙ same_step (n - 8) ∙ ap (λ (t : Bool). t && same_bits (n - 8) (drop (i + 1) xs) (drop (j + 1) ys)) (ne_eqb _ _ d)
+      (all_same n _ _ (λ k l. ap₂ eqb (bits_rest xs i 1 k) (bits_rest ys j 1 k)))
 
 -- no bits are always the same
 pub same_none : (xs ys : List ℕ) → same_bits 0 xs ys ≡ true
@@ -149,3 +138,28 @@ agrees_bytes offset pattern key bp bk h =
     agrees_same offset (8 * length pattern) pattern key
     ∙ same_whole (length pattern) key pattern offset 0 bk bp h (omega arith)
     ∙ ap (same (take (length pattern) (drop offset key))) (take-length pattern)
+
+-- bytes are the same where the slices that hold them are equal
+same_equal : (xs ys : List ℕ) → same xs ys ≡ bytes_eq xs ys
+unfolding same
+same_equal [] [] = refl
+same_equal [] (y ∷ ys) = refl
+same_equal (x ∷ xs) [] = refl
+same_equal (x ∷ xs) (y ∷ ys) = ap (λ (t : Bool). eqb x y && t) (same_equal xs ys)
+
+-- a match compares the whole bytes of its bits, and then the bits that are left
+pub agrees_parts :
+    (offset bits : ℕ) (pattern key : List ℕ) → Bytes pattern → Bytes key → offset + bits / 8 ≤ length key → bits / 8 ≤ length pattern
+    → agrees offset bits pattern key
+    ≡ (bytes_eq (take (bits / 8) (drop offset key)) (take (bits / 8) pattern)
+    && same_bits (bits % 8) (drop (offset + bits / 8) key) (drop (bits / 8) pattern))
+unfolding same_bits
+agrees_parts offset bits pattern key bp bk hk hp =
+    let n = bits / 8 in
+    let rest : (k : ℕ) → bit_at pattern (8 * n + k) ≡ bit_at (drop n pattern) k =
+    λ k. bits_rest pattern 0 n k ∙ ap (λ (j : ℕ). bit_at (drop j pattern) k) (omega arith) in
+    agrees_same offset bits pattern key
+    ∙ ap (λ (k : ℕ). same_bits k (drop offset key) pattern) (omega arith)
+    ∙ all_add (8 * n) (bits % 8) _
+    ∙ ap₂ ◌&&◌ (same_whole n key pattern offset 0 bk bp hk (omega arith) ∙ same_equal _ _)
+    (all_same (bits % 8) _ _ (λ k l. ap₂ eqb (bits_rest key offset n k) (rest k)))

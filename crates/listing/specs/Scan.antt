@@ -1,12 +1,13 @@
 -- "Scan and match": what is listed, and how.
 -- Assumes nothing.
-use Rattle.std.specs.Prelude.{ℕ, zero, suc, Bool, true, cond, ◌&&◌, ◌≡◌, List, [], ◌∷◌, ◌++◌, eqb, ltb, length, take, drop}
+use Rattle.std.specs.Prelude.{ℕ, zero, suc, Bool, true, cond, ◌&&◌, ◌≡◌, List, [], ◌∷◌, ◌++◌, eqb, ltb, length, take, drop, Result, Ok, Err}
 use Rattle.header.specs.declared.options.Options.{Options}
 use Rattle.header.specs.declared.shape.Shape.{Shape}
-use Rattle.header.specs.Answer.{done, too_short}
+use Rattle.header.specs.declared.refusal.Refusal.{Refusal}
+use Rattle.header.specs.Answer.{done, number, too_short}
 use Rattle.header.specs.HeaderTest.{header_test, shape_of, after_test}
 use Rattle.image.specs.Table.{meta_of, key_of}
-use Rattle.listing.specs.declared.listed.Listed.{Listed}
+use Rattle.listing.specs.declared.listed.Listing.{Listing}
 
 -- the numbers below n that pass a test, ascending
 unfoldable pub passing : ℕ → (ℕ → Bool) → List ℕ
@@ -22,14 +23,25 @@ matches s image wanted =
 unfoldable pub chosen : List ℕ → ℕ → ℕ → List ℕ
 chosen all skip limit = take limit (drop skip all)
 
+-- What a listing call gives back: its answer, the total number of matches and the number written.
+pub record Listed : Type 0 where
+  pub answer : ℕ
+  pub total : ℕ
+  pub written : ℕ
+
+-- a listing that is done, or refused: "all else returned is 0"
+abbrev pub told : Result Listing Refusal → Listed
+told (Ok l) = record { answer = done; total = l.total; written = l.written }
+told (Err r) = record { answer = number r; total = 0; written = 0 }
+
 -- What a listing call answers, and what it leaves in the lent list.
 pub record Outcome : Type 0 where
   pub listed : Listed
   pub numbers : List ℕ
 
 -- the call answers what the outcome says, and leaves its numbers in the lent list
-abbrev pub Lists : Outcome → Listed → List ℕ → Type 0
-Lists x listed numbers = (listed ≡ x.listed) × (numbers ≡ x.numbers)
+abbrev pub Lists : Outcome → Result Listing Refusal → List ℕ → Type 0
+Lists x result numbers = (told result ≡ x.listed) × (numbers ≡ x.numbers)
 
 -- "all else returned is 0"; the list is unchanged
 abbrev pub refused : List ℕ → ℕ → Outcome

@@ -17,17 +17,10 @@ pub fn agrees_at(key: &[u8], offset: usize, bits: usize, pattern: &[u8]) -> bool
     requires { RightPattern (length key.now) offset bits pattern.now }
     ensures { result ≡ agrees offset bits pattern.now key.now }
 {
-    let mut i = 0;
-    let mut left = bits;
-    while 8 <= left {
-        if key[offset + i] != pattern[i] {
-            return false;
-        }
-        i += 1;
-        left -= 8;
+    let whole = bits / 8;
+    let left = bits % 8;
+    if key[offset..offset + whole] != pattern[..whole] {
+        return false;
     }
-    if left == 0 {
-        return true;
-    }
-    same_upper(key[offset + i], pattern[i], left)
+    left == 0 || same_upper(key[offset + whole], pattern[whole], left)
 }

@@ -1,33 +1,21 @@
 // Match: the live slots whose keys agree with a pattern of bits.
 ghost use Rattle.std.specs.Prelude.{◌≡◌, not, ◌||◌, ◌+◌, ◌/◌, ◌≤◌, eqb, ltb, length};
 ghost use Rattle.header.specs.Sizes.{most_key_size};
-ghost use Rattle.header.specs.Shaped.{Shaped};
 ghost use Rattle.listing.specs.Scan.{Lists};
 ghost use Rattle.listing.specs.Match.{bits_compared, match_in, match_of};
 
-use crate::listed::{Listed, refused};
+use crate::listed::Listing;
 use crate::select::select;
-use crate::wanted::Wanted;
-use header::answer::INVALID_INPUT;
-use header::judge::judge;
+use crate::wanted::Bits;
 use header::options::Options;
-use header::shape::{Judged, Shape};
-
-// How many bytes hold so many bits.
-fn bytes_for(bits: u64) -> u64
-    ensures { result ≡ (bits + 7) / 8 }
-{
-    bits / 8 + (bits % 8 + 7) / 8
-}
+use header::refusal::{Refusal, refuse_if};
+use image::table::Image;
 
 // Whether the pattern has not exactly the bytes needed for one bit or more.
 fn length_wrong(bits: u64, pattern: &[u8]) -> bool
     ensures { result ≡ (eqb bits 0 || not (eqb (length pattern.now) ((bits + 7) / 8))) }
 {
-    if bits == 0 {
-        return true;
-    }
-    (pattern.len() as u64) != bytes_for(bits)
+    bits == 0 || pattern.len() as u64 != bits.div_ceil(8)
 }
 
 // Whether the pattern runs past a key of this size from the offset on. No sum is formed.
@@ -35,10 +23,7 @@ fn runs_past(size: usize, offset: u64, pattern: &[u8]) -> bool
     ensures { result ≡ ltb size (offset + length pattern.now) }
 {
     let length = pattern.len();
-    if size < length {
-        return true;
-    }
-    ((size - length) as u64) < offset
+    size < length || ((size - length) as u64) < offset
 }
 
 // How many bits are compared: as many as are asked for, and with 0 all that the pattern has.
@@ -46,43 +31,42 @@ fn bits_compared(bits: u64, pattern: &[u8]) -> u64
     requires { length pattern.now ≤ most_key_size }
     ensures { result ≡ bits_compared bits pattern.now }
 {
-    if bits != 0 {
-        return bits;
+    if bits == 0 {
+        8 * (pattern.len() as u64)
+    } else {
+        bits
     }
-    8 * (pattern.len() as u64)
 }
 
-// The match in an image of this shape.
+// The match in an image that passed the header test.
 fn match_in(
-    image: &[u8],
-    s: Shape,
+    image: &Image,
     offset: u64,
     bits: u64,
     pattern: &[u8],
     skip: u64,
     limit: u64,
     numbers: &mut [u32],
-) -> Listed
-    requires { Shaped s image.now }
-    ensures { Lists (match_in s image.now offset (bits_compared bits pattern.now) pattern.now skip limit numbers.old) result numbers.new }
+) -> Result<Listing, Refusal>
+    ensures { Lists (match_in image.now.shape image.now.bytes.now offset (bits_compared bits pattern.now) pattern.now skip limit numbers.old) result numbers.new }
 {
-    if runs_past(s.layout.key_size, offset, pattern) {
-        return refused(INVALID_INPUT);
-    }
+    refuse_if(
+        runs_past(image.shape.layout.key_size, offset, pattern),
+        Refusal::InvalidInput,
+    )?;
     let compared = bits_compared(bits, pattern);
-    if length_wrong(compared, pattern) {
-        return refused(INVALID_INPUT);
-    }
-    let wanted = Wanted::Bits {
+    refuse_if(length_wrong(compared, pattern), Refusal::InvalidInput)?;
+    let wanted = Bits {
         offset: offset as usize,
         bits: compared as usize,
+        pattern,
     };
-    select(image, s, wanted, pattern, skip, limit, numbers)
+    select(image, &wanted, skip, limit, numbers)
 }
 
 // Lists the live slots of an image whose keys have the pattern's bits, most significant first, from a byte offset on, and with 0
 // bits the whole pattern: their numbers, ascending, after a skip and up to a limit. Entries past those written, and the whole list
-// with any answer but 0, are unchanged.
+// where the call is refused, are unchanged.
 pub fn match_bits(
     image: &[u8],
     o: Options,
@@ -92,12 +76,9 @@ pub fn match_bits(
     skip: u64,
     limit: u64,
     numbers: &mut [u32],
-) -> Listed
+) -> Result<Listing, Refusal>
     ensures { Lists (match_of o image.now offset bits pattern.now skip limit numbers.old) result numbers.new }
 {
-    let judged = judge(image, o);
-    match judged {
-        Judged::Fit(s) => match_in(image, s, offset, bits, pattern, skip, limit, numbers),
-        Judged::Refused(answer) => refused(answer),
-    }
+    let image = Image::open(image, o)?;
+    match_in(&image, offset, bits, pattern, skip, limit, numbers)
 }

@@ -9,7 +9,7 @@ use Rattle.header.specs.declared.shape.Shape.{Shape}
 use Rattle.header.specs.HeaderTest.{header_test, shape_of}
 use Rattle.header.specs.Shaped.{Shaped}
 use Rattle.header.specs.Sizes.{buckets_offset}
-use Rattle.header.proofs.Fit.{judged_fit, fit_shaped}
+use Rattle.header.proofs.Fit.{fit_shaped}
 use Rattle.image.specs.Table.{slot_at, table_of}
 use Rattle.image.specs.Lookup.{probe_of}
 use Rattle.writing.proofs.Lasting.{Kept}
@@ -33,6 +33,6 @@ pub kept_map : (o : Options) (image image' : List ℕ) → header_test o image �
 unfolding map_of probe_of table_of
 kept_map o image image' z kept k =
     let s = shape_of image in
-    let fit = fit_shaped o image s (judged_fit o image z) in
+    let fit = fit_shaped o image z in
     ap (λ (t : Shape). map_of t image' k) (kept_shape image image' kept)
     ∙ same_map s image image' (kept_table image image' kept s (offset s image image' fit kept)) (slots s image image' fit kept) k

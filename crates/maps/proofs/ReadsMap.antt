@@ -11,9 +11,8 @@ use Rattle.probing.specs.Sound.{Sound}
 use Rattle.header.specs.declared.options.Options.{Options}
 use Rattle.header.specs.Answer.{done, not_present}
 use Rattle.header.specs.HeaderTest.{header_test, shape_of}
-use Rattle.image.specs.declared.lookup.Lookup.{Lookup}
 use Rattle.image.specs.Table.{table_of}
-use Rattle.image.specs.Lookup.{probe_of, lookup_by, lookup_of, index_by, index_part}
+use Rattle.image.specs.Lookup.{Lookup, probe_of, lookup_by, lookup_of, index_by, index_part}
 use Rattle.image.proofs.Looked.{looked_by}
 use Rattle.maps.specs.Map.{Entry, map_of}
 use Rattle.maps.proofs.MapSlots.{has_found, lacks_absent, some_iff, none_iff}

@@ -1,7 +1,7 @@
 -- Two lists by words of eight bytes: how many they begin with in common, and what these say of a comparison.
 -- Assumes nothing.
 use Prim.Native.Nat.{ℕ, zero, suc, ◌+◌, ◌*◌, ◌≤◌}
-use mathlib.Core.Bool.{Bool, true, false, ◌&&◌}
+use mathlib.Core.Bool.{Bool, true, false, ◌&&◌, and-false}
 use mathlib.Core.Path.{◌≡◌, refl, sym, ap, ap₂, ◌∙◌}
 use mathlib.Core.List.{List, [], ◌∷◌, ◌++◌}
 use native.Mathlib.Nat.{le_refl, mul-add}
@@ -9,7 +9,10 @@ use native.Mathlib.Omega.{arith}
 use borrow.Author.Tests.{eq-eqb, le-ltb, eqb-true}
 use lib.Dec.{eqb}
 use lib.ListN.{length, get_or, take, drop, take-append-drop}
+use lib.Pointwise.{pointwise}
 use lib.Seq.{take-add}
+use Rattle.std.proofs.lemmas.Slice.{between_to_end}
+use Rattle.std.specs.List.{between}
 use Rattle.numbers.specs.Bytes.{Bytes, part, word, same, below}
 use Rattle.numbers.specs.EqualWords.{EqualWords}
 use Rattle.numbers.proofs.Put.{part_cons}
@@ -55,6 +58,22 @@ left f behind a b m e =
 pub below_past : (a b : List ℕ) (m : ℕ) → take m a ≡ take m b → below a b ≡ below (drop m a) (drop m b)
 below_past = left below below_behind
 
+-- as `==` of slices compares them
+same_pointwise : (xs ys : List ℕ) → pointwise eqb xs ys ≡ same xs ys
+unfolding same
+same_pointwise [] [] = refl
+same_pointwise [] (y ∷ ys) = refl
+same_pointwise (x ∷ xs) [] = refl
+same_pointwise (x ∷ xs) (y ∷ ys) = ap (λ (rest : Bool). eqb x y && rest) (same_pointwise xs ys)
+
+-- lists of two lengths are not the same
+pub same_lengths : (a b : List ℕ) → (length a ≡ length b → ⊥) → same a b ≡ false
+unfolding same
+same_lengths [] [] ne = absurd (ne refl)
+same_lengths [] (y ∷ ys) ne = refl
+same_lengths (x ∷ xs) [] ne = refl
+same_lengths (x ∷ xs) (y ∷ ys) ne = rw (same_lengths xs ys (λ e. ne (ap suc e))) (and-false (eqb x y))
+
 -- lists whose first n bytes are different words are not the same
 same_not : (n : ℕ) (xs ys : List ℕ) → (word (take n xs) ≡ word (take n ys) → ⊥) → same xs ys ≡ false
 unfolding same word
@@ -80,3 +99,10 @@ module _ {a b : List ℕ} {n : ℕ} (words : EqualWords a b n) where
   pub same_differ : 8 * n + 8 ≤ length a → 8 * n + 8 ≤ length b → same a b ≡ false
   unfolding part
   same_differ ha hb = same_left ∙ same_not 8 (drop (8 * n) a) (drop (8 * n) b) (words.no_more ha hb)
+
+  -- what is left of both decides
+  pub same_by_rest : (m : ℕ) → m ≡ n → {r : Bool} → r ≡ pointwise eqb (between (8 * m) (length a) a) (between (8 * m) (length b) b) → r ≡ same a b
+  same_by_rest m e compared =
+      compared ∙ ap₂ (pointwise eqb) (between_to_end a (8 * m) (length a) (le_refl (length a))) (between_to_end b (8 * m) (length b) (le_refl (length b)))
+      ∙ same_pointwise (drop (8 * m) a) (drop (8 * m) b)
+      ∙ rw e (sym same_left)

@@ -2,6 +2,7 @@ pub mod Bytes
 pub mod Compare
 pub mod EqualWords
 pub mod Put
+pub mod AgeLaws
 pub mod Signed
 pub mod Word
 pub mod PutPart

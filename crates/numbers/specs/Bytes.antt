@@ -20,8 +20,8 @@ unfoldable pub bytes_of : ℕ → ℕ → List ℕ
 bytes_of zero x = []
 bytes_of (suc n) x = x % 256 ∷ bytes_of n (x / 256)
 
--- s with the bytes bs put at offset at
-unfoldable pub put : List ℕ → ℕ → List ℕ → List ℕ
+-- s with bs put at offset at
+unfoldable pub put : {A : Type 0} → List A → ℕ → List A → List A
 put s at bs = take at s ++ bs ++ drop (at + length bs) s
 
 -- whether two lists are the same bytes

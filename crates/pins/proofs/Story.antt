@@ -17,7 +17,7 @@ use Rattle.header.specs.Fields.{bytes_in, value}
 use Rattle.header.specs.HeaderTest.{layout_of, shape_of}
 use Rattle.header.specs.Open.{user_fields, no_fields, open_of}
 use Rattle.header.specs.Sizes.{align8}
-use Rattle.image.specs.declared.check.Checked.{Checked}
+use Rattle.image.specs.Check.{Checked}
 use Rattle.writing.specs.Write.{Written}
 use Rattle.writing.specs.Create.{create_of}
 use Rattle.writing.specs.State.{begin_of}

@@ -12,8 +12,8 @@ use Rattle.listing.specs.Match.{agrees}
 use Rattle.host.specs.Options.{options_of}
 use Rattle.host.specs.Places.{total_of, key_place, index_place}
 use Rattle.host.specs.Results.{reported, lookup_report, check_report, reported_listing, listing_report}
-use Rattle.image.specs.declared.check.Checked.{Checked}
-use Rattle.image.specs.declared.lookup.Lookup.{Lookup}
+use Rattle.image.specs.Check.{Checked}
+use Rattle.image.specs.Lookup.{Lookup}
 use Rattle.listing.specs.Scan.{Outcome}
 use Rattle.demands.specs.Examples.{bench}
 

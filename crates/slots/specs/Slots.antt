@@ -1,8 +1,10 @@
 -- The writes that a commit is made of, on bytes. A shape says where slots and buckets lie, and carries the counters.
 -- Assumes nothing.
-use Rattle.std.specs.Prelude.{ℕ, zero, suc, ◌+◌, ◌*◌, cond, List, [], ◌∷◌, ◌++◌, eqb, replicate}
+use Rattle.std.specs.Prelude.{ℕ, zero, suc, ◌+◌, ◌*◌, ◌<◌, Option, IfSome, cond, List, [], ◌∷◌, ◌++◌, eqb, replicate}
 use Rattle.numbers.specs.Bytes.{part, bytes_of, put}
 use Rattle.digests.specs.Fnv.{fnv1a64}
+use Rattle.probing.specs.Table.{Table}
+use Rattle.probing.specs.Report.{Hint}
 use Rattle.probing.specs.Change.{place}
 use Rattle.header.specs.declared.shape.Layout.{Layout}
 use Rattle.header.specs.declared.shape.Shape.{Shape}
@@ -24,6 +26,10 @@ unfoldable pub indexed : Shape → List ℕ → ℕ → List ℕ
 indexed s image n =
     put image (bucket_at s.layout (place (table_of s image) (key_of s.layout image n)))
     (bytes_of 8 (fnv1a64 (key_of s.layout image n)) ++ bytes_of 8 (n + 1))
+
+-- the bucket noted before for a key, if any, is a hint
+abbrev pub Hinted : Table → List ℕ → Option ℕ → Type 0
+Hinted t key hint = IfSome hint (λ b. (b < t.B) × Hint t key b)
 
 -- "new keys get the next slot numbers, ...; the record's bytes become the whole slot"
 unfoldable pub appended : Shape → List ℕ → List ℕ → List ℕ

@@ -18,7 +18,7 @@ use Rattle.header.specs.State.{CLEAN, DIRTY}
 use Rattle.header.specs.HeaderTest.{test1, test2, test3, test4, test5, test6, test7, test8, test9, test10, test11, test12, header_tests, header_test, shape_of}
 use Rattle.header.specs.Shaped.{Shaped}
 use Rattle.header.proofs.Firsts.{first_none, fails}
-use Rattle.header.proofs.Fit.{judged_fit, fit_shaped}
+use Rattle.header.proofs.Fit.{fit_shaped}
 use Rattle.header.proofs.PassedTests.{length_passed, role_passed}
 use Rattle.image.specs.Check.{passes}
 use Rattle.writing.specs.State.{writing_tests, clean_test, generation_test, user_tests}
@@ -94,7 +94,7 @@ module _ (o : Options) (image batch : List ℕ) (accepted : first_of (commit_tes
   further = further_facts s image batch both.1
 
   fit : Shaped s image
-  fit = fit_shaped o image s (judged_fit o image roles.0)
+  fit = fit_shaped o image roles.0
 
   pub accepted_ready : Ready s image batch
   accepted_ready = may_commit s image batch fit further.passed (omega (arith, further.room, fit.highwater)) further.ahead

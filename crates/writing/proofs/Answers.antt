@@ -4,6 +4,10 @@ use Prim.Native.Nat.{ℕ, zero, suc}
 use mathlib.Core.Path.{◌≡◌, refl}
 use mathlib.Core.List.{List}
 use native.Mathlib.Omega.{arith}
+use Rattle.std.specs.Prelude.{Result, Ok, Err, IsErrAnd}
+use Rattle.header.specs.declared.refusal.Refusal.{Refusal}
+use Rattle.header.specs.Answer.{number, answer}
+use Rattle.header.proofs.Firsts.{number_not_done}
 use Rattle.writing.specs.Write.{Leaves, unless}
 
 module _ (image changed : List ℕ) where
@@ -20,10 +24,12 @@ module _ (image changed : List ℕ) where
   refused zero h = absurd (h refl)
   refused (suc n) h = refl
 
-  -- what code says that answers the number of its tests and leaves every byte alone, and that answers 0 and changes them
-  pub says_refused : (n : ℕ) {r : ℕ} → r ≡ n → (r ≡ 0 → ⊥) → Leaves (unless n image changed) r image
-  says_refused zero e h = absurd (h e)
-  says_refused (suc n) e h = (e, refl)
+  -- what code says that is refused, as by `?`, and leaves every byte alone, and that is done and changes them
+  pub says_refused : {A : Type 0} (n : ℕ) (r : Result A Refusal) (e : Refusal) → IsErrAnd r (λ y. y ≡ e) → number e ≡ n
+      → Leaves (unless n image changed) (answer r) image
+  says_refused n (Ok a) e is h = absurd is
+  says_refused zero (Err y) e is h = absurd (number_not_done e h)
+  says_refused (suc n) (Err y) e is h = rw is (h, refl)
 
   pub says_accepted : (n : ℕ) {left : List ℕ} → 0 ≡ n → left ≡ changed → Leaves (unless n image changed) 0 left
   says_accepted zero z e = (refl, e)

@@ -13,7 +13,7 @@ use Rattle.header.specs.Fields.{value}
 use Rattle.header.specs.HeaderTest.{header_test, layout_of, shape_of}
 use Rattle.header.specs.Shaped.{Shaped}
 use Rattle.header.specs.Sizes.{buckets_offset}
-use Rattle.header.proofs.Fit.{judged_fit, fit_shaped}
+use Rattle.header.proofs.Fit.{fit_shaped}
 use Rattle.probing.specs.Check.{checks}
 use Rattle.image.specs.Check.{passes}
 use Rattle.image.specs.Table.{slot_at, key_at, bucket_at, meta_of, key_of, bucket_of, table_of}
@@ -72,7 +72,7 @@ buckets_behind s image h = omega (arith, h.laid.offset)
 pub same_table : (o : Options) (image image' : List ℕ) → header_test o image ≡ 0 → Kept image image'
     → table_of (shape_of image') image' ≡ table_of (shape_of image) image
 same_table o image image' z kept =
-    let low = buckets_behind (shape_of image) image (fit_shaped o image (shape_of image) (judged_fit o image z)) in
+    let low = buckets_behind (shape_of image) image (fit_shaped o image z) in
     ap (λ (s : Shape). table_of s image') (kept_shape image image' kept)
     ∙ moved_table (shape_of image) image' (value image' F.state) (value image' F.generation)
     ∙ kept_table image image' kept (shape_of image) low

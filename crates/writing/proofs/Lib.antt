@@ -8,7 +8,7 @@ pub mod Lasting
 pub mod LastingTable
 pub mod Answers
 pub mod Making
-pub mod Verdicts
+pub mod OfShape
 pub mod Roles
 pub mod StateCode
 pub mod MoreTests

@@ -1,23 +1,20 @@
 -- A fresh image made in a buffer: zeros, the fields of the header, the CRC.
 -- Assumes nothing.
-use Prim.Native.Nat.{ℕ, ◌≤◌, ◌<◌}
-use mathlib.Core.Bool.{cond}
+use Prim.Native.Nat.{ℕ, ◌≤◌}
 use mathlib.Core.Path.{◌≡◌, refl, sym, ap, ◌∙◌}
 use mathlib.Core.List.{List, [], ◌∷◌, ◌++◌}
 use native.Mathlib.Nat.{zero-add}
 use native.Mathlib.Omega.{arith}
-use borrow.Author.Tests.{lt-ltb, le-ltb}
 use lib.Dec.{ltb}
 use lib.ListN.{length, take, drop, replicate, length-replicate}
 use Rattle.numbers.specs.Bytes.{put}
 use Rattle.header.specs.declared.options.Options.{Options}
-use Rattle.header.specs.Answer.{too_short}
+use Rattle.header.specs.Answer.{done, too_short}
 use Rattle.header.specs.FirstOf.{first_of}
 use Rattle.header.specs.HeaderTest.{create_test1}
 use Rattle.header.specs.Sizes.{buckets_offset, total, total_size}
 use Rattle.writing.specs.Write.{with_fields, sealed}
-use Rattle.writing.specs.Create.{create_tests, fresh_fields, fresh, create_of}
-use Rattle.writing.proofs.Answers.{says_refused, says_accepted}
+use Rattle.writing.specs.Create.{create_tests, fresh_fields, fresh}
 use Rattle.writing.proofs.FieldList.{fields_length, fields_append}
 use Rattle.writing.proofs.Seal.{seal_append}
 use Rattle.writing.proofs.Tests.{past}
@@ -53,25 +50,10 @@ made o buffer {a = a} {d = d} t ea eb ec ed ee =
     let split : d ≡ with_fields zeros fs ++ rest = header ∙ ap (λ (l : List ℕ). with_fields l fs) start ∙ fields_append fs zeros rest long in
     ee ∙ ap sealed split ∙ seal_append (with_fields zeros fs) long' rest
 
--- create's tests where test 1 passes: the buffer is shorter than the total, or not
-behind_first : (o : Options) (buffer : List ℕ) → first_of (create_test1 o) ≡ 0
-    → first_of (create_tests o buffer) ≡ cond (ltb (length buffer) (total_size o)) too_short 0
-unfolding create_tests first_of create_test1
-behind_first o buffer z = past (create_test1 o) ((ltb (length buffer) (total_size o), too_short) ∷ []) tt z
-
-module _ (o : Options) (buffer : List ℕ) {total : ℕ} (first : first_of (create_test1 o) ≡ 0) (e : total ≡ total_size o) where
-  pub short : length buffer < total → too_short ≡ first_of (create_tests o buffer)
-  short h = sym (behind_first o buffer first ∙ rw (lt-ltb (length buffer) (total_size o) (omega arith)) refl)
-
-  pub enough : total ≤ length buffer → first_of (create_tests o buffer) ≡ 0
-  enough h = behind_first o buffer first ∙ rw (le-ltb (length buffer) (total_size o) (omega arith)) refl
-
-pub created_not : (o : Options) (buffer : List ℕ) {r : ℕ} → r ≡ first_of (create_tests o buffer) → (r ≡ 0 → ⊥)
-    → (r ≡ (create_of o buffer).answer) × (buffer ≡ (create_of o buffer).image)
-unfolding create_of
-created_not o buffer e h = says_refused buffer (fresh o ++ drop (total_size o) buffer) (first_of (create_tests o buffer)) e h
-
-pub created : (o : Options) (buffer : List ℕ) {left : List ℕ} → first_of (create_tests o buffer) ≡ 0 → left ≡ fresh o ++ drop (total_size o) buffer
-    → (0 ≡ (create_of o buffer).answer) × (left ≡ (create_of o buffer).image)
-unfolding create_of
-created o buffer z e = says_accepted buffer (fresh o ++ drop (total_size o) buffer) (first_of (create_tests o buffer)) (sym z) e
+-- past the test of the options, the buffer's length decides
+pub by_length : (o : Options) (buffer : List ℕ) {total : ℕ} → done ≡ first_of (create_test1 o) → total ≡ total_size o
+    → first_of (create_tests o buffer) ≡ first_of ((ltb (length buffer) total, too_short) ∷ [])
+unfolding create_tests create_test1
+by_length o buffer first e =
+    past (create_test1 o) ((ltb (length buffer) (total_size o), too_short) ∷ []) tt (sym first)
+    ∙ ap (λ (t : ℕ). first_of ((ltb (length buffer) t, too_short) ∷ [])) (sym e)

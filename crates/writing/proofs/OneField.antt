@@ -1,13 +1,16 @@
 -- What one field written leaves: its value, every other field, and every byte behind the header.
 -- Assumes nothing.
-use Prim.Native.Nat.{ℕ, ◌+◌, ◌^◌, ◌≤◌, ◌<◌}
+use Prim.Native.Nat.{ℕ, zero, suc, ◌+◌, ◌/◌, ◌%◌, ◌^◌, ◌≤◌, ◌<◌}
 use mathlib.Core.Bool.{Bool, true, false, ◌||◌}
-use mathlib.Core.Path.{◌≡◌, refl, sym, ap, ◌∙◌}
-use mathlib.Core.List.{List, ◌++◌, append_assoc}
+use mathlib.Core.Path.{◌≡◌, refl, sym, ap, ap₂, ◌∙◌}
+use mathlib.Core.List.{List, ◌∷◌, ◌++◌, append_assoc}
 use native.Mathlib.Decide.{dec_lt}
-use native.Mathlib.Nat.{add-zero, mod-eq_of_lt}
+use native.Mathlib.Nat.{add-zero, div-one, mod-eq_of_lt}
 use native.Mathlib.Omega.{arith}
-use lib.Dec.{T, leb, leb→le}
+use lib.Dec.{T, eqb, leb, leb→le}
+use borrow.Author.Tests.{eqb-true, eqb-false}
+use Rattle.std.specs.Int.{byte_at, bytes_low_first}
+use Rattle.std.proofs.Math.Nat.{pow-suc, div-div-eq-div-mul}
 use lib.ListN.{length, take, drop, get_or-eq_default}
 use lib.Seq.{take-append-le, drop-append-le, take_all}
 use Rattle.numbers.specs.Bytes.{part, word, bytes_of, put}
@@ -15,7 +18,7 @@ use Rattle.numbers.proofs.Put.{length_put}
 use Rattle.numbers.proofs.PutPart.{part_put_before, part_put_after, part_put_in, length_bytes, word_bytes}
 use Rattle.header.specs.Fields.{fields, field, field_of, bytes_in, value}
 use Rattle.header.specs.declared.fields.Field.{Field}
-use Rattle.header.proofs.Table.{inside}
+use Rattle.header.proofs.Table.{inside, four_or_eight}
 use Rattle.writing.specs.Write.{with_field}
 
 -- where a field begins and ends
@@ -105,11 +108,34 @@ module _ (image : List ℕ) (long : 256 ≤ length image) (name x : ℕ) where
   unfolding with_field
   field_append b = put_append image b (start name) (bytes_of (field_of name).width x) fits
 
--- the field that the table gives, in a part of known width
-pub field_of_lem : (image : List ℕ) (name x n : ℕ) {f : Field} {r : List ℕ} → f ≡ field_of name → f.width ≡ n
-    → r ≡ put image f.offset (bytes_of n x) → r ≡ with_field image name x
-unfolding with_field
-field_of_lem image name x n e w p = rw (← w, e) at p
+-- a byte of a number, and what is left of it behind that byte
+byte : (i x : ℕ) → byte_at i x ≡ x / 256 ^ i % 256
+byte zero x = ap (λ (n : ℕ). n % 256) (sym (div-one x))
+byte (suc i) x = refl
 
-pub fits_of : (name x n : ℕ) {f : Field} → f ≡ field_of name → f.width ≡ n → Fits name x → x < 256 ^ n
-fits_of name x n e w h = rw (← e, w) at h
+-- the lowest bytes of a number, which a word of eight shows
+low_bytes : (n k i x : ℕ) → n ≤ k → take n (bytes_low_first i k x) ≡ bytes_of n (x / 256 ^ i)
+unfolding bytes_of
+low_bytes zero k i x h = refl
+low_bytes (suc n) zero i x h = absurd (omega arith)
+low_bytes (suc n) (suc k) i x h =
+    ap₂ (λ (b : ℕ) (bs : List ℕ). b ∷ bs) (byte i x)
+    (low_bytes n k (suc i) x (omega arith)
+    ∙ ap (bytes_of n) (ap (λ (p : ℕ). x / p) (pow-suc 256 i) ∙ sym (div-div-eq-div-mul x (256 ^ i) 256)))
+
+-- a field that holds a number has at most eight bytes
+pub number_width : (name : ℕ) {f : Field} → name < 21 → f ≡ field_of name → f.width ≤ 8
+number_width name {f} h e = go (eqb f.width 4) refl
+  where
+    go : (t : Bool) → eqb f.width 4 ≡ t → f.width ≤ 8
+    go true four = omega (arith, eqb-true f.width 4 four)
+    go false other = omega (arith, four_or_eight name h e (eqb-false f.width 4 other))
+
+-- the lowest bytes of a number, put where the table has the field
+pub number_written : (image : List ℕ) (name x : ℕ) {f : Field} {r bs : List ℕ} → f ≡ field_of name → f.width ≤ 8
+    → bs ≡ bytes_low_first 0 8 x → r ≡ put image f.offset (take f.width bs) → r ≡ with_field image name x
+unfolding with_field
+number_written image name x {f} e h b p =
+    p ∙ ap (λ (l : List ℕ). put image f.offset (take f.width l)) b
+    ∙ ap (put image f.offset) (low_bytes f.width 8 0 x h ∙ ap (bytes_of f.width) (div-one x))
+    ∙ ap (λ (g : Field). put image g.offset (bytes_of g.width x)) e

@@ -1,14 +1,15 @@
 // A fresh image in a lent buffer.
 ghost use Rattle.std.specs.Prelude.{true, ◌≡◌, ◌++◌, ◌≤◌, length, take, drop};
+ghost use Rattle.header.specs.Answer.{answer};
 ghost use Rattle.header.specs.Sizes.{sizes_to_create, most_key_size, most_index_size, total_size};
 ghost use Rattle.writing.specs.Write.{with_fields, Leaves};
 ghost use Rattle.writing.specs.Create.{fresh_fields, fresh, create_of};
 
 use crate::fields::{seal, write};
-use header::answer::{DONE, TOO_SHORT};
-use header::fields;
+use header::fields::{Name, SLC1};
 use header::judge::create_options_test;
 use header::options::Options;
+use header::refusal::{Refusal, refuse_if};
 use header::sizes::{bucket_count, buckets_offset, slot_size, total_size};
 use numbers::parts::clear;
 
@@ -18,12 +19,12 @@ fn write_sizes(image: &mut [u8], o: Options)
     ensures { image.new ≡ with_fields image.old (take 6 (fresh_fields o)) }
 {
     let slot = slot_size(o.key_size, o.index_size);
-    write(image, fields::MAGIC, fields::SLC1);
-    write(image, fields::VERSION, 1);
-    write(image, fields::HEADER_SIZE, 256);
-    write(image, fields::KEY_SIZE, o.key_size);
-    write(image, fields::INDEX_SIZE, o.index_size);
-    write(image, fields::SLOT_SIZE, slot);
+    write(image, Name::Magic, SLC1);
+    write(image, Name::Version, 1);
+    write(image, Name::HeaderSize, 256);
+    write(image, Name::KeySize, o.key_size);
+    write(image, Name::IndexSize, o.index_size);
+    write(image, Name::SlotSize, slot);
 }
 
 // Puts the hash and what else the options say into a header: the next four fields.
@@ -31,10 +32,10 @@ fn write_options(image: &mut [u8], o: Options)
     requires { (256 ≤ length image.old) × (o.ordered ≤ 1) }
     ensures { image.new ≡ with_fields image.old (take 4 (drop 6 (fresh_fields o))) }
 {
-    write(image, fields::HASH_ALG, 1);
-    write(image, fields::FLAGS, o.ordered);
-    write(image, fields::SLOT_CAPACITY, o.slot_capacity);
-    write(image, fields::USER_VERSION, o.user_version);
+    write(image, Name::HashAlg, 1);
+    write(image, Name::Flags, o.ordered);
+    write(image, Name::SlotCapacity, o.slot_capacity);
+    write(image, Name::UserVersion, o.user_version);
 }
 
 // Puts where the slots and buckets lie into a header: the last three fields.
@@ -44,9 +45,9 @@ fn write_layout(image: &mut [u8], o: Options)
 {
     let count = bucket_count(o.slot_capacity);
     let offset = buckets_offset(o.slot_capacity, slot_size(o.key_size, o.index_size));
-    write(image, fields::BUCKET_COUNT, count);
-    write(image, fields::SLOTS_OFFSET, 256);
-    write(image, fields::BUCKETS_OFFSET, offset);
+    write(image, Name::BucketCount, count);
+    write(image, Name::SlotsOffset, 256);
+    write(image, Name::BucketsOffset, offset);
 }
 
 // Makes the first bytes of the buffer, exactly the total, a fresh image.
@@ -61,18 +62,13 @@ fn make(buffer: &mut [u8], o: Options, total: usize)
     seal(buffer);
 }
 
-// Answers 0 with a fresh image in the buffer, its bytes past the total unchanged. Refused, it leaves every byte alone.
-pub fn create(buffer: &mut [u8], o: Options) -> u32
-    ensures { Leaves (create_of o buffer.old) result buffer.new }
+// Makes the first bytes of the buffer a fresh image, its bytes past the total unchanged. Refused, it leaves every byte alone.
+pub fn create(buffer: &mut [u8], o: Options) -> Result<(), Refusal>
+    ensures { Leaves (create_of o buffer.old) (answer result) buffer.new }
 {
-    let refused = create_options_test(o);
-    if refused != DONE {
-        return refused;
-    }
+    create_options_test(o)?;
     let total = total_size(o) as usize;
-    if buffer.len() < total {
-        return TOO_SHORT;
-    }
+    refuse_if(buffer.len() < total, Refusal::TooShort)?;
     make(buffer, o, total);
-    DONE
+    Ok(())
 }

@@ -1,25 +1,20 @@
-// Header fields written by the table of fields, and the header's CRC renewed.
+// Header fields written by the table of fields, and the header's CRC renewed. The image is a plain slice: out of a struct that
+// keeps its length, each function would first lend the slice again, and each contract say `self.new.image.now` for `image.new`.
 ghost use Rattle.std.specs.Prelude.{◌≡◌, ◌^◌, ◌≤◌, ◌<◌, length};
-ghost use Rattle.header.specs.Fields.{field_of};
+ghost use Rattle.header.specs.Fields.{place, field_of};
 ghost use Rattle.writing.specs.Write.{with_field, sealed};
 
 use digests::crc::header_crc;
-use header::fields::{HEADER_CRC32C, field_of};
-use numbers::words::{put_u32, put_u64};
+use header::fields::{Name, field_of};
+use numbers::parts::copy_to;
 
 // Puts a number into a field of four or eight bytes, little-endian.
-pub fn write(image: &mut [u8], name: usize, x: u64)
-    requires { (256 ≤ length image.old) × (name < 21) × (x < 256 ^ (field_of name).width) }
-    ensures { image.new ≡ with_field image.old name x }
+pub fn write(image: &mut [u8], name: Name, x: u64)
+    requires { (256 ≤ length image.old) × (place name < 21) × (x < 256 ^ (field_of (place name)).width) }
+    ensures { image.new ≡ with_field image.old (place name) x }
 {
-    let f = field_of(name);
-    let at = f.offset;
-    let width = f.width;
-    if width == 4 {
-        put_u32(image, at, x as u32);
-    } else {
-        put_u64(image, at, x);
-    }
+    let field = field_of(name);
+    copy_to(image, field.offset, &x.to_le_bytes()[..field.width]);
 }
 
 // Renews the header's CRC.
@@ -28,5 +23,5 @@ pub fn seal(image: &mut [u8])
     ensures { image.new ≡ sealed image.old }
 {
     let crc = header_crc(image);
-    write(image, HEADER_CRC32C, crc as u64);
+    write(image, Name::HeaderCrc32c, u64::from(crc));
 }

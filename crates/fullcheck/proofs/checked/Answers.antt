@@ -1,6 +1,6 @@
 -- `fullcheck::checked` meets its contract.
 -- Assumes nothing.
-use mathlib.Core.Path.{refl, ap, ◌∙◌}
+use mathlib.Core.Path.{ap, ◌∙◌}
 use Rattle.header.specs.declared.options.Options.{Options}
 use Rattle.image.specs.Check.{check_of}
 use Rattle.fullcheck.specs.Program.{program_of}
@@ -8,10 +8,14 @@ use Rattle.fullcheck.proofs.checked.Goals as goal
 
 pub returns-then-longer : goal.returns-then-longer
 unfolding program_of
-returns-then-longer c = rw c.if-longer.true refl
+returns-then-longer c = rw c.if-longer.true c.refused.ensures
 
-pub returns : goal.returns
+pub returns-in-Ok : goal.returns-in-Ok
 unfolding program_of
-returns c =
-    let image = c.args.image.now in
-    rw c.if-longer.false (c.full_check.ensures ∙ ap (λ (o : Options). check_of o image) c.bench.ensures)
+returns-in-Ok c = rw c.if-longer.false (c.in-Ok.ensures ∙ ap (λ (o : Options). check_of o c.args.image.now) c.bench.ensures)
+
+pub returns-in-Err : goal.returns-in-Err
+unfolding program_of
+returns-in-Err c =
+    rw c.if-longer.false
+    (c.refused-in-Err.ensures ∙ c.in-Err.ensures ∙ ap (λ (o : Options). check_of o c.args.image.now) c.bench.ensures)

@@ -7,6 +7,7 @@ use mathlib.Core.List.{List, ◌++◌}
 use native.Mathlib.Nat.{add-zero, add_assoc}
 use native.Mathlib.Omega.{arith}
 use lib.ListN.{length}
+use Rattle.std.specs.Prelude.{Option, Some, None}
 use Rattle.numbers.specs.Bytes.{word, part, bytes_of, put}
 use Rattle.numbers.specs.Signed.{signed}
 use Rattle.numbers.proofs.PutPart.{part_put_in}
@@ -27,7 +28,7 @@ use Rattle.header.specs.Shaped.{Shaped}
 use Rattle.header.specs.Sizes.{align8}
 use Rattle.image.specs.Table.{slot_at, key_at, revision_at, index_at, bucket_at, meta_of, key_of, revision_of, index_of, bucket_of, table_of}
 use Rattle.image.proofs.Places.{key_in_slot, index_in_slot}
-use Rattle.slots.specs.Slots.{indexed, appended}
+use Rattle.slots.specs.Slots.{Hinted, indexed, appended}
 use Rattle.slots.proofs.Table.Around.{Around, around_then, around_shaped, SameSlot, same_slot_then}
 use Rattle.slots.proofs.Table.Apart.{fits_slots, slot_put_around, slot_put_slot, slot_put_bucket}
 use Rattle.slots.proofs.Table.Indexed.{indexed_around, indexed_slot, indexed_full, indexed_table}
@@ -131,13 +132,18 @@ module _ (s : Shape) (image : List ℕ) (fit : Shaped s image) (room : s.slot_hi
   )
 
   -- a bucket noted for it is one still
-  pub mid_hint : (key : List ℕ) (b : ℕ) → Hint (table_of s image) key b → Hint (table_of s mid) key b
+  mid_hint : (key : List ℕ) (b : ℕ) → Hint (table_of s image) key b → Hint (table_of s mid) key b
   unfolding table_of
   mid_hint key b hint inside free =
       sym (place_clip (table_of s mid) (omega arith) key)
       ∙ ap (λ (t : Table). place t key) same_clip
       ∙ place_clip (table_of s image) (omega arith) key
       ∙ hint inside (ap is_full (sym (mid_bucket b)) ∙ free)
+
+  pub mid_hinted : (key : List ℕ) (hint : Option ℕ) → Hinted (table_of s image) key hint → Hinted (table_of s mid) key hint
+  unfolding table_of
+  mid_hinted key None hinted = hinted
+  mid_hinted key (Some b) hinted = (hinted.0, mid_hint key b hinted.1)
 
   pub appended_new : Holds s.layout (appended s image bytes) n bytes
   unfolding appended

@@ -2,19 +2,22 @@
 -- Assumes nothing.
 use Prim.Native.Nat.{ℕ, ◌+◌, ◌≤◌, ◌<◌}
 use mathlib.Core.Path.{◌≡◌, refl, sym, ap, ap₂, ◌∙◌}
-use mathlib.Core.Bool.{true}
+use mathlib.Core.Bool.{Bool, true, false, cond}
 use mathlib.Core.List.{List, ◌++◌}
 use native.Mathlib.Nat.{add-sub_cancel}
 use native.Mathlib.Decide.{ℕ_discrete}
 use native.Mathlib.Omega.{arith}
 use borrow.Author.Tests.{ne_eqb}
+use lib.Dec.{eqb}
 use lib.ListN.{length, length-append}
+use Rattle.std.specs.Prelude.{Some, None}
+use Rattle.std.specs.Option.{unwrap_or}
 use Rattle.numbers.specs.Bytes.{word, part, bytes_of, put}
 use Rattle.numbers.proofs.Put.{put_put, length_put}
 use Rattle.numbers.proofs.PutPart.{length_bytes, part_put_before}
 use Rattle.digests.specs.Fnv.{fnv1a64}
 use Rattle.probing.specs.Table.{FULL, is_full}
-use Rattle.probing.specs.Report.{Missing, free_by}
+use Rattle.probing.specs.Report.{Missing, free_by, report}
 use Rattle.probing.specs.Change.{place, placed}
 use Rattle.probing.specs.Clip.{clip}
 use Rattle.probing.proofs.Change.{by_update}
@@ -23,7 +26,7 @@ use Rattle.probing.proofs.Clip.{agree_clip, place_inside, clip_placed}
 use Rattle.header.specs.declared.shape.Shape.{Shape}
 use Rattle.header.specs.Shaped.{Shaped}
 use Rattle.image.specs.declared.probe.Report.{Report}
-use Rattle.image.specs.Told.{report_of}
+use Rattle.image.specs.Told.{told_tombstone, free_of, report_of}
 use Rattle.image.specs.Table.{all_ones, bucket_at, key_of, bucket_from, bucket_of, table_of}
 use Rattle.image.proofs.Places.{bucket_inside}
 use Rattle.slots.specs.Slots.{indexed}
@@ -31,11 +34,21 @@ use Rattle.slots.proofs.Table.ReadBack.{word_put, hash_fits}
 use Rattle.slots.proofs.Table.Around.{Around, SameSlot}
 use Rattle.slots.proofs.Table.Apart.{bucket_put_around, bucket_put_slot, bucket_put_bucket}
 
+-- the bucket that a report leaves is the same, told as an option
+pub told_free : (B tombstone bucket : ℕ) → unwrap_or (told_tombstone B tombstone) bucket ≡ free_by B tombstone bucket
+told_free B tombstone bucket = go (eqb tombstone B)
+  where
+    go : (none : Bool) → unwrap_or (cond none None (Some tombstone)) bucket ≡ cond none bucket tombstone
+    go true = refl
+    go false = refl
+
 -- the place of a key that is not there, by the report of its probe
 pub reported_place : (s : Shape) (image key : List ℕ) (r : Report) → r ≡ report_of s image key → Missing (table_of s image) key
-    → free_by s.layout.bucket_count r.tombstone r.bucket ≡ place (table_of s image) key
+    → free_of r ≡ place (table_of s image) key
 unfolding report_of table_of
-reported_place s image key r e none = rw e (place_reported (table_of s image) key none.0 none.1)
+reported_place s image key r e none =
+    let told = report (table_of s image) key in
+    rw e (told_free s.layout.bucket_count told.tombstone told.bucket ∙ place_reported (table_of s image) key none.0 none.1)
 
 module _ (s : Shape) (image : List ℕ) (fit : Shaped s image) (n : ℕ) (inside : n < s.layout.slot_capacity) where
   abbrev bucket : ℕ

@@ -103,10 +103,6 @@ module _ (s : Shape) (image : List ℕ) (fit : Shaped s image) where
           }
       go false e b = record { around = b.around; slots = b.slots; table = b.table ∙ sym (step n l false e) }
 
-  -- the shape is still that of the image
-  pub rebuilt_fit : (n : ℕ) (before : List ℕ) → n ≤ s.slot_highwater → before ≡ rebuilt_to s image n → Shaped s before
-  rebuilt_fit n before l e = rw e (around_shaped (built n l).around fit)
-
   -- one slot more, by the meta that the image has by then
   pub rebuilt_more : (n : ℕ) (before : List ℕ) → n < s.slot_highwater → before ≡ rebuilt_to s image n
       → cond (eqb (meta_of s.layout before n) 1) (indexed s before n) before ≡ rebuilt_to s image (n + 1)

@@ -1,12 +1,12 @@
 -- `applying::apply::apply` meets its contract. Records act, new keys are appended, and the index and the counters are settled.
 -- Assumes nothing.
 use Prim.Native.Nat.{ℕ}
-use borrow.Author.Rules.{rules}
 use mathlib.Core.List.{List}
 use mathlib.Core.Path.{◌≡◌, sym, ap, ◌∙◌, subst}
 use native.Mathlib.Nat.{le_refl}
 use native.Mathlib.Omega.{arith}
-use Rattle.applying.proofs.Applied.{order_below, live_turns, in_order, left_live, left_new, all_missing, all_hinted, applied}
+use lib.ListN.{length}
+use Rattle.applying.proofs.Applied.{order_below, live_turns, in_order, left_new, all_missing, all_hinted, applied}
 use Rattle.soundness.specs.Apply.{acted_to, after_live, after_new}
 use Rattle.soundness.proofs.Grown.{Grown}
 use Rattle.applying.specs.Prepared.{appended_to, AllMissing, AllHinted}
@@ -21,48 +21,38 @@ use Rattle.applying.proofs.apply.apply.Goals as goal
 use Rattle.applying.proofs.apply.apply.Goals.{Start}
 
 -- the image when all records have acted, and when all new keys are appended
-live-by : (b : Start) (one : List ℕ) → one ≡ acted_to b.args.s (new_by b.args.turns.now) b.args.image.now b.args.batch.now (record_count b.args.s.layout b.args.batch.now)
-    → one ≡ after_live b.args.s b.args.image.now b.args.batch.now (record_count b.args.s.layout b.args.batch.now)
+live-by : (b : Start) (one : List ℕ) → one ≡ acted_to b.args.s (new_by b.args.plan.now.turns.now) b.args.image.now b.args.plan.now.hashed.batch.bytes.now (record_count b.args.s.layout b.args.plan.now.hashed.batch.bytes.now)
+    → one ≡ after_live b.args.s b.args.image.now b.args.plan.now.hashed.batch.bytes.now (record_count b.args.s.layout b.args.plan.now.hashed.batch.bytes.now)
 live-by b one e =
     let a = b.args in
-    e ∙ live_turns a.s a.image.now a.batch.now a.hashes.now a.turns.now a.places.now a.order.now a.count b.requires.prepared
+    e ∙ live_turns a.s a.image.now a.plan.now.hashed.batch.bytes.now a.plan.now.turns.now a.plan.now.places.now a.plan.now.order.now b.requires.prepared
 
-all_new : (b : Start) (one : List ℕ) → one ≡ acted_to b.args.s (new_by b.args.turns.now) b.args.image.now b.args.batch.now (record_count b.args.s.layout b.args.batch.now)
-    → (two : List ℕ) → two ≡ appended_to b.args.s b.args.batch.now b.args.order.now one b.args.count
-    → two ≡ after_new b.args.s b.args.image.now b.args.batch.now b.args.count
+all_new : (b : Start) (one : List ℕ) → one ≡ acted_to b.args.s (new_by b.args.plan.now.turns.now) b.args.image.now b.args.plan.now.hashed.batch.bytes.now (record_count b.args.s.layout b.args.plan.now.hashed.batch.bytes.now)
+    → (two : List ℕ) → two ≡ appended_to b.args.s b.args.plan.now.hashed.batch.bytes.now b.args.plan.now.order.now one (length b.args.plan.now.order.now)
+    → two ≡ after_new b.args.s b.args.image.now b.args.plan.now.hashed.batch.bytes.now (length b.args.plan.now.order.now)
 all_new b one e two d =
     let a = b.args in
-    d ∙ ap (λ (i : List ℕ). appended_to a.s a.batch.now a.order.now i a.count) (live-by b one e)
-    ∙ in_order a.s a.image.now a.batch.now a.hashes.now a.turns.now a.places.now a.order.now a.count b.requires.prepared a.count (le_refl _)
+    d ∙ ap (λ (i : List ℕ). appended_to a.s a.plan.now.hashed.batch.bytes.now a.plan.now.order.now i (length a.plan.now.order.now)) (live-by b one e)
+    ∙ in_order a.s a.image.now a.plan.now.hashed.batch.bytes.now a.plan.now.turns.now a.plan.now.places.now a.plan.now.order.now b.requires.prepared _ (le_refl _)
 
-pub act_all-requires : goal.act_all-requires
-act_all-requires c = let ready = c.requires.prepared in
-    record {
-      shaped = search rules;
-      noted = ready.hashed;
-      turned = (_, ready.turned);
-    }
-
-pub append_all-requires : goal.append_all-requires
-append_all-requires c =
+pub append_all-requires-clause-by_index : goal.append_all-requires-clause-by_index
+append_all-requires-clause-by_index c =
     let a = c.args in
-    let ready = c.requires.prepared in
-    let e = live-by (goal.at.append_all-requires c).Start c.act_all.new.image c.act_all.ensures in
-    let fit = (left_live a.s a.image.now a.batch.now a.hashes.now a.turns.now a.places.now a.order.now a.count ready c.requires.shaped).fit in
-    let none = all_missing a.s a.image.now a.batch.now a.hashes.now a.turns.now a.places.now a.order.now a.count ready c.requires.shaped in
-    let hints = all_hinted a.s a.image.now a.batch.now a.hashes.now a.turns.now a.places.now a.order.now a.count ready c.requires.shaped in
-    record {
-      shaped = subst (Shaped a.s) (sym e) fit;
-      noted = ready.hashed;
-      count_in_bounds = (omega (arith, ready.ordered.fits, ready.ordered.size), omega (arith, ready.placed.fits, ready.placed.size));
-      count_bound = ready.room;
-      by_index = order_below a.s a.image.now a.batch.now a.hashes.now a.turns.now a.places.now a.order.now a.count ready;
-      all_missing = subst (λ (i : List ℕ). AllMissing a.s a.batch.now a.order.now i a.count) (sym e) none;
-      all_hinted = subst (λ (i : List ℕ). AllHinted a.s a.batch.now a.places.now a.order.now i a.count) (sym e) hints;
-    }
+    order_below a.s a.image.now a.plan.now.hashed.batch.bytes.now a.plan.now.turns.now a.plan.now.places.now a.plan.now.order.now c.requires.prepared
 
-pub overflow_add-s : goal.overflow_add-s
-overflow_add-s c = let ready = c.requires.prepared in omega (arith, ready.room)
+pub append_all-requires-clause-all_missing : goal.append_all-requires-clause-all_missing
+append_all-requires-clause-all_missing c =
+    let a = c.args in
+    let e = live-by (goal.at.append_all-requires-clause-all_missing c).Start c.act_all.new.image c.act_all.ensures in
+    subst (λ (i : List ℕ). AllMissing a.s a.plan.now.hashed.batch.bytes.now a.plan.now.order.now i) (sym e)
+    (all_missing a.s a.image.now a.plan.now.hashed.batch.bytes.now a.plan.now.turns.now a.plan.now.places.now a.plan.now.order.now c.requires.prepared c.requires.shaped)
+
+pub append_all-requires-clause-all_hinted : goal.append_all-requires-clause-all_hinted
+append_all-requires-clause-all_hinted c =
+    let a = c.args in
+    let e = live-by (goal.at.append_all-requires-clause-all_hinted c).Start c.act_all.new.image c.act_all.ensures in
+    subst (λ (i : List ℕ). AllHinted a.s a.plan.now.hashed.batch.bytes.now a.plan.now.places.now a.plan.now.order.now i) (sym e)
+    (all_hinted a.s a.image.now a.plan.now.hashed.batch.bytes.now a.plan.now.turns.now a.plan.now.places.now a.plan.now.order.now c.requires.prepared c.requires.shaped)
 
 pub settle-requires : goal.settle-requires
 settle-requires c =
@@ -70,7 +60,7 @@ settle-requires c =
     let two = c.append_all.new.image in
     let one = c.act_all in
     let e = all_new (goal.at.settle-requires c).Start one.new.image one.ensures two c.append_all.ensures in
-    let g = subst (Grown a.s a.image.now a.batch.now a.count) (sym e) (left_new a.s a.image.now a.batch.now a.hashes.now a.turns.now a.places.now a.order.now a.count c.requires.prepared c.requires.shaped) in
+    let g = subst (Grown a.s a.image.now a.plan.now.hashed.batch.bytes.now (length a.plan.now.order.now)) (sym e) (left_new a.s a.image.now a.plan.now.hashed.batch.bytes.now a.plan.now.turns.now a.plan.now.places.now a.plan.now.order.now c.requires.prepared c.requires.shaped) in
     record {
       shaped = subst (λ (t : Shape). Shaped t two) (sym c.with_slots.ensures) g.fit;
       sound = subst (λ (t : Shape). Sound (table_of t two)) (sym c.with_slots.ensures) g.formed.sound;
@@ -83,5 +73,5 @@ returns c =
     let one = c.act_all in
     let two = c.append_all in
     c.settle.ensures
-    ∙ applied a.s a.image.now a.batch.now a.hashes.now a.turns.now a.places.now a.order.now a.count c.requires.prepared
+    ∙ applied a.s a.image.now a.plan.now.hashed.batch.bytes.now a.plan.now.turns.now a.plan.now.places.now a.plan.now.order.now c.requires.prepared
     _ (all_new (goal.at.returns c).Start _ one.ensures _ two.ensures) _ c.with_slots.ensures

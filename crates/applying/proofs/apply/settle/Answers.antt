@@ -7,17 +7,9 @@ use native.Mathlib.Omega.{arith}
 use lib.ListN.{length}
 use Rattle.header.specs.Fields.{value, generation}
 use Rattle.slots.proofs.Table.Around.{around_generation}
-use Rattle.applying.proofs.StepsKeepHeader.{header_inside, tidied_kept, tidied_fit}
+use Rattle.applying.proofs.StepsKeepHeader.{header_inside, tidied_kept}
 use Rattle.applying.proofs.Acting.{settled_by}
 use Rattle.applying.proofs.apply.settle.Goals as goal
-
-pub count_live-live-requires : goal.count_live-live-requires
-count_live-live-requires c =
-    tidied_fit c.args.s c.args.image.now c.requires.shaped _ c.tidy.ensures
-
-pub count_tombstones-tombstones-requires : goal.count_tombstones-tombstones-requires
-count_tombstones-tombstones-requires c =
-    tidied_fit c.args.s c.args.image.now c.requires.shaped _ c.tidy.ensures
 
 pub publish-requires : goal.publish-requires
 publish-requires c =

@@ -1,6 +1,6 @@
 -- `applying::counts::count_live` meets its contract. The loop's invariant: the sum counts the live slots so far.
 -- Assumes nothing.
-use Prim.Native.Nat.{ℕ, ◌-◌, ◌≤◌}
+use Prim.Native.Nat.{ℕ}
 use mathlib.Core.Path.{◌≡◌}
 use mathlib.Core.Bool.{Bool}
 use mathlib.Core.List.{List}
@@ -15,7 +15,4 @@ abbrev pub alive : Shape → List ℕ → ℕ → Bool
 alive s image n = eqb (meta_of s.layout image n) 1
 
 abbrev pub invariant-loop-n : goal.invariant-loop-n
-invariant-loop-n l = (l.highwater ≡ l.s.slot_highwater) × (l.n ≤ l.highwater) × (l.sum ≡ count_to l.n (alive l.s l.image))
-
-abbrev pub decreases-loop-n : goal.decreases-loop-n
-decreases-loop-n l = l.highwater - l.n
+invariant-loop-n l = l.sum ≡ count_to l.n (alive l.image.shape l.image.bytes.now)

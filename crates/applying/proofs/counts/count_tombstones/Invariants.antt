@@ -1,6 +1,6 @@
 -- `applying::counts::count_tombstones` meets its contract. The loop's invariant: the sum counts the TOMBSTONE buckets so far.
 -- Assumes nothing.
-use Prim.Native.Nat.{ℕ, ◌-◌, ◌≤◌}
+use Prim.Native.Nat.{ℕ}
 use mathlib.Core.Path.{◌≡◌}
 use mathlib.Core.Bool.{Bool}
 use mathlib.Core.List.{List}
@@ -15,7 +15,4 @@ abbrev pub gone : Shape → List ℕ → ℕ → Bool
 gone s image b = is_tombstone (bucket_of s.layout image b)
 
 abbrev pub invariant-loop-b : goal.invariant-loop-b
-invariant-loop-b l = (l.count ≡ l.s.layout.bucket_count) × (l.b ≤ l.count) × (l.sum ≡ count_to l.b (gone l.s l.image))
-
-abbrev pub decreases-loop-b : goal.decreases-loop-b
-decreases-loop-b l = l.count - l.b
+invariant-loop-b l = l.sum ≡ count_to l.b (gone l.image.shape l.image.bytes.now)

@@ -1,68 +1,77 @@
 -- `commit::turns::turn_of` meets its contract.
 -- Assumes nothing.
-use borrow.Author.Rules.{rules}
-use mathlib.Core.Bool.{true, cond}
-use mathlib.Core.Path.{◌≡◌, ◌∙◌, sym, ap}
+use Prim.Native.Nat.{◌<◌}
+use mathlib.Core.Bool.{false, cond}
+use mathlib.Core.Logic.{inl, inr}
+use mathlib.Core.Path.{◌≡◌, refl, ◌∙◌, sym, ap}
+use native.Mathlib.Omega.{arith}
+use Rattle.applying.proofs.Acting.{left_below}
 use Rattle.applying.specs.Prepared.{kept_place}
-use Rattle.batch.proofs.Every.{flag_down, flag_up}
-use Rattle.batch.specs.Batch.{decides}
-use Rattle.batch.specs.Notes.{live_turn, new_turn}
-use Rattle.commit.proofs.Turn.{Noting, noting_as, not_deciding, no_put, by_report, left_fits}
+use Rattle.header.specs.declared.shape.Layout.{Layout}
+use Rattle.batch.specs.Batch.{record_count}
+use Rattle.batch.specs.declared.new_keys.Turn.TheVariants.{Live, New}
+use Rattle.batch.specs.Notes.{hash_of, some_delete}
+use Rattle.commit.proofs.Turn.{Noting, noting_as, not_deciding, no_put, by_report, put_by, key_by}
 use Rattle.image.proofs.Looked.{heard}
 use Rattle.image.specs.Lookup.{is_found}
 use Rattle.image.specs.declared.probe.Probe.{Probe}
 use Rattle.commit.proofs.turns.turn_of.Goals as goal
-use Rattle.commit.proofs.turns.turn_of.Goals.{After-kept_place-place, Else-flags-i-ne1}
-
--- the flag of a record that decides
-deciding : (c : Else-flags-i-ne1)
-    → let a = c.args in
-    decides a.s.layout a.batch.now a.i ≡ true
-deciding c =
-    flag_up _ (sym (c.requires.noted_2.each c.args.i c.requires.i_bound) ∙ c.if-flags-i-ne1.false)
+use Rattle.commit.proofs.turns.turn_of.Goals.{After-probe_hashed-report}
 
 -- what the probe ends in says it
-ended : (c : After-kept_place-place) (r : Probe) → c.probe_hashed-report.result.end ≡ r
+ended : (c : After-probe_hashed-report) (r : Probe) → c.probe_hashed-report.result.end ≡ r
     → let a = c.args in
-    Noting a.s a.image.now a.batch.now a.i (cond (is_found (heard r)) live_turn new_turn) (cond (is_found (heard r)) 0 c.kept_place-place.result)
+    Noting a.image.now.shape a.image.now.bytes.now a.hashed.now.batch.bytes.now a.i (cond (is_found (heard r)) Live New)
+    (cond (is_found (heard r)) 0 (kept_place a.image.now.shape.layout.bucket_count c.probe_hashed-report.result (some_delete a.image.now.shape.layout a.hashed.now.batch.bytes.now)))
 ended c r e =
     let a = c.args in
-    let report = c.probe_hashed-report in
-    by_report a.s a.image.now a.batch.now a.i (flag_up _ (sym (c.requires.noted_2.each c.args.i c.requires.i_bound) ∙ c.if-flags-i-ne1.false))
-    (sym c.record_meta.ensures ∙ c.if-record_meta-ne1.false)
-    _ c.record_key.ensures _ report.ensures r e _
-    (c.kept_place-place.ensures ∙ ap (kept_place a.s.layout.bucket_count report.result) c.requires.deletes_value)
+    by_report a.image.now.shape a.image.now.bytes.now a.hashed.now.batch.bytes.now a.i
+    (sym (c.requires.flagged.each a.i c.requires.i_bound) ∙ c.if-not-flags-i.false)
+    (sym (put_by c.requires.layout a.hashed.now.batch.bytes.now a.i c.record-record.ensures.bytes c.is_put.ensures) ∙ c.if-not-is_put.false)
+    _ (key_by c.requires.layout a.hashed.now.batch.bytes.now a.i c.record-record.ensures.bytes c.record-record.ensures.layout c.key.ensures) _ c.probe_hashed-report.ensures r e _ refl
 
-pub returns-then-flags-i-ne1 : goal.returns-then-flags-i-ne1
-returns-then-flags-i-ne1 c =
+pub returns-then-not-flags-i : goal.returns-then-not-flags-i
+returns-then-not-flags-i c =
     let a = c.args in
-    noting_as a.s a.image.now a.batch.now a.i c.unplaced.ensures
-    (not_deciding a.s a.image.now a.batch.now a.i (flag_down _ (λ e. c.if-flags-i-ne1.true (c.requires.noted_2.each a.i c.requires.i_bound ∙ e))))
+    noting_as a.image.now.shape a.image.now.bytes.now a.hashed.now.batch.bytes.now a.i c.unplaced.ensures
+    (not_deciding a.image.now.shape a.image.now.bytes.now a.hashed.now.batch.bytes.now a.i (sym (c.requires.flagged.each a.i c.requires.i_bound) ∙ c.if-not-flags-i.true))
 
-pub returns-then-record_meta-ne1 : goal.returns-then-record_meta-ne1
-returns-then-record_meta-ne1 c =
+pub returns-then-not-is_put : goal.returns-then-not-is_put
+returns-then-not-is_put c =
     let a = c.args in
-    noting_as a.s a.image.now a.batch.now a.i c.unplaced-then-record_meta-ne1.ensures
-    (no_put a.s a.image.now a.batch.now a.i (deciding (goal.at.returns-then-record_meta-ne1 c).Else-flags-i-ne1) (λ e. c.if-record_meta-ne1.true (c.record_meta.ensures ∙ e)))
+    noting_as a.image.now.shape a.image.now.bytes.now a.hashed.now.batch.bytes.now a.i c.unplaced-then-not-is_put.ensures
+    (no_put a.image.now.shape a.image.now.bytes.now a.hashed.now.batch.bytes.now a.i
+    (sym (c.requires.flagged.each a.i c.requires.i_bound) ∙ c.if-not-flags-i.false)
+    (sym (put_by c.requires.layout a.hashed.now.batch.bytes.now a.i c.record-record.ensures.bytes c.is_put.ensures) ∙ c.if-not-is_put.true))
 
 pub probe_hashed-report-requires : goal.probe_hashed-report-requires
 probe_hashed-report-requires c =
-    record {
-      shaped = search rules;
-      hash_value = rw c.record_key.ensures (c.requires.noted.each c.args.i c.requires.i_bound);
-    }
+    let a = c.args in
+    let batch = a.hashed.now.batch in
+    let layout = c.requires.layout in
+    let inside : a.i < record_count batch.layout batch.bytes.now = rw layout c.requires.i_bound in
+    rw (key_by layout batch.bytes.now a.i c.record-record.ensures.bytes c.record-record.ensures.layout c.key.ensures)
+    (a.hashed.now.noted.each a.i inside ∙ ap (λ (l : Layout). hash_of l batch.bytes.now a.i) layout)
 
-pub kept_place-place-requires : goal.kept_place-place-requires
-kept_place-place-requires c =
-    (c.requires.shaped.laid.small, left_fits c.args.s c.args.image.now c.requires.shaped _ _ c.probe_hashed-report.ensures)
+pub kept_place-requires : goal.kept_place-requires
+kept_place-requires c =
+    let image = c.args.image.now in
+    let small = image.shaped.laid.small in
+    (small, omega (arith, small, left_below image.shape image.bytes.now image.shaped _ _ c.probe_hashed-report.ensures))
 
 pub returns-in-Found : goal.returns-in-Found
 returns-in-Found c =
     let a = c.args in
-    noting_as a.s a.image.now a.batch.now a.i c.unplaced-in-Found.ensures (ended (goal.at.returns-in-Found c).After-kept_place-place _ c.in-Found.is)
+    noting_as a.image.now.shape a.image.now.bytes.now a.hashed.now.batch.bytes.now a.i c.unplaced-in-Found.ensures (ended (goal.at.returns-in-Found c).After-probe_hashed-report _ c.in-Found.is)
 
 pub returns-in-Absent : goal.returns-in-Absent
-returns-in-Absent c = ended (goal.at.returns-in-Absent c).After-kept_place-place _ c.in-Absent.is
-
-pub returns-in-Broken : goal.returns-in-Broken
-returns-in-Broken c = ended (goal.at.returns-in-Broken c).After-kept_place-place _ c.in-Broken.is
+returns-in-Absent c =
+    let a = c.args in
+    let s = a.image.now.shape in
+    let batch = a.hashed.now.batch.bytes.now in
+    let new : (r : Probe) → c.probe_hashed-report.result.end ≡ r → is_found (heard r) ≡ false → Noting s a.image.now.bytes.now batch a.i New c.kept_place.result =
+    λ r e absent.
+    noting_as s a.image.now.bytes.now batch a.i
+    (rw absent refl, rw absent (c.kept_place.ensures ∙ ap (kept_place s.layout.bucket_count c.probe_hashed-report.result) c.requires.deletes_value))
+    (ended (goal.at.returns-in-Absent c).After-probe_hashed-report r e) in
+    elim c.in-Absent.is [ inl none ↦ new _ none.1 refl | inr e ↦ new _ e refl ]

@@ -1,12 +1,14 @@
--- `bits::bits_64` meets its contract: a word is its two parts.
+-- `bits::bits_64` meets its contract: its numbers are images.
 -- Assumes nothing.
-use Rattle.digests.proofs.Linear.{in_parts, low_alone}
+use Rattle.std.proofs.Common.{refl}
+use Rattle.digests.specs.Crc.{crc_bit, crc_bits}
+use Rattle.digests.proofs.Images.{by_fives, descend, images, reached}
 use Rattle.digests.proofs.bits.bits_64.Goals as goal
 
-pub returns-then-x-lt34359738368 : goal.returns-then-x-lt34359738368
-returns-then-x-lt34359738368 c =
-    low_alone 35 64 c.args.x c.if-x-lt34359738368.true c.low_64-low.ensures
+pub invariant_of-of_word-clause-images : goal.invariant_of-of_word-clause-images
+unfolding crc_bits crc_bit descend by_fives
+invariant_of-of_word-clause-images c = images 64 7 _ (reached 35 0 29 {a = 1} refl) refl refl tt
 
-pub returns : goal.returns
-returns c =
-    in_parts 35 29 c.args.x c.low_64-low.ensures c.high_64.ensures
+pub invariant_of-of_word-2-clause-images : goal.invariant_of-of_word-2-clause-images
+unfolding crc_bits crc_bit descend by_fives
+invariant_of-of_word-2-clause-images c = images 29 6 _ {v = 2} refl refl refl tt

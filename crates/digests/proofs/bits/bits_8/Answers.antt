@@ -2,12 +2,9 @@
 -- Assumes nothing.
 use Rattle.std.proofs.Common.{refl}
 use Rattle.digests.specs.Crc.{crc_bit, crc_bits}
-use Rattle.digests.proofs.Images.{descend, looked_up}
-use Rattle.digests.proofs.Mixed.{further}
+use Rattle.digests.proofs.Images.{by_fives, descend, images}
 use Rattle.digests.proofs.bits.bits_8.Goals as goal
 
-pub returns : goal.returns
-unfolding crc_bits crc_bit descend
-returns c =
-    let x = c.args.x in
-    looked_up 8 0 0 1 _ x refl (further _ _ x c.mix.ensures c.mix-2.ensures) c.requires tt
+pub invariant_of-mix-clause-images : goal.invariant_of-mix-clause-images
+unfolding crc_bits crc_bit descend by_fives
+invariant_of-mix-clause-images c = images 8 2 _ {v = 4} refl refl refl tt

@@ -14,7 +14,7 @@ returns-then-all_zero c =
 pub returns-then-all_zero-2 : goal.returns-then-all_zero-2
 unfolding part
 returns-then-all_zero-2 c =
-    rest_user c.args.image.now c.requires c.after-state.ensures (sym c.all_zero-2.ensures ∙ c.if-all_zero-2.true) c.bits_512.ensures
+    rest_user c.args.image.now c.requires c.after-state.ensures (sym c.all_zero-2.ensures ∙ c.if-all_zero-2.true) (rw c.from.ensures at c.bits_512.ensures)
 
 pub returns : goal.returns
 unfolding part

@@ -1,11 +1,8 @@
--- `fnv::fnv1a64_of` meets its contract. The loop's invariant: the hash goes on from h with the bytes from i.
+-- `fnv::fnv1a64_of` meets its contract. The loop's invariant: the hash goes on from h with the bytes that are left.
 -- Assumes nothing.
-use Rattle.std.proofs.Common.{◌≡◌, ◌-◌, ◌≤◌, length, drop}
+use Rattle.std.proofs.Common.{◌≡◌, drop}
 use Rattle.digests.specs.Fnv.{fnv_from, fnv1a64}
 use Rattle.digests.proofs.fnv.fnv1a64_of.Given as goal
 
-abbrev pub invariant-loop-i : goal.invariant-loop-i
-invariant-loop-i l = (l.i ≤ length l.s) × (fnv1a64 l.s ≡ fnv_from l.h (drop l.i l.s))
-
-abbrev pub decreases-loop-i : goal.decreases-loop-i
-decreases-loop-i l = length l.s - l.i
+abbrev pub invariant-loop-b : goal.invariant-loop-b
+invariant-loop-b l = fnv1a64 l.s ≡ fnv_from l.h (drop l.b-index l.s)

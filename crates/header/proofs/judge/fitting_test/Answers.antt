@@ -1,58 +1,50 @@
 -- `header::judge::fitting_test` meets its contract: the first of tests 8 to 12.
 -- Assumes nothing.
+use mathlib.Core.Path.{sym}
 use Rattle.header.specs.HeaderTest.{test8, test9, test10, test11}
-use Rattle.header.proofs.Firsts.{first_stops, first_after}
-use mathlib.Core.Path.{sym, ◌∙◌}
 use Rattle.header.proofs.Allowed.{allowed}
+use Rattle.header.proofs.Firsts.{stage_refuses, stage_passes}
 use Rattle.header.proofs.PassedTests.{total_fits}
 use Rattle.header.proofs.judge.fitting_test.Goals as goal
 
-pub returns-then-agreement-ne-DONE : goal.returns-then-agreement-ne-DONE
-returns-then-agreement-ne-DONE c =
-    let a = c.args in
-    let i = a.image.now in
-    first_stops (test8 a.o i) _ c.agreement_test-agreement.ensures c.if-agreement-ne-DONE.true
+pub returns-in_err-agreement_test : goal.returns-in_err-agreement_test
+returns-in_err-agreement_test c =
+    stage_refuses (test8 c.args.o c.args.header.now) _ _ _ c.from_residual.ensures.1 c.in_err-agreement_test.ensures
 
-pub returns-then-buckets-ne-DONE : goal.returns-then-buckets-ne-DONE
+pub returns-in_err-buckets_test : goal.returns-in_err-buckets_test
 unfolding test8
-returns-then-buckets-ne-DONE c =
-    let a = c.args in
-    let i = a.image.now in
-    first_after (test8 a.o i) _ tt c.agreement_test-agreement.ensures c.if-agreement-ne-DONE.false
-    (first_stops (test9 i) _ c.buckets_test-buckets.ensures c.if-buckets-ne-DONE.true)
-
-pub extent_test-extent-requires : goal.extent_test-extent-requires
-extent_test-extent-requires c =
+returns-in_err-buckets_test c =
     let o = c.args.o in
-    let i = c.args.image.now in
-    (c.requires.0, total_fits o i (allowed o c.requires.1) (sym c.agreement_test-agreement.ensures ∙ c.if-agreement-ne-DONE.false) (sym c.buckets_test-buckets.ensures ∙ c.if-buckets-ne-DONE.false))
+    let i = c.args.header.now in
+    rw (stage_passes (test8 o i) _ tt c.in_ok-agreement_test.ensures)
+    (stage_refuses (test9 i) _ _ _ c.from_residual-in_err-buckets_test.ensures.1 c.in_err-buckets_test.ensures)
 
-pub returns-then-extent-ne-DONE : goal.returns-then-extent-ne-DONE
+pub extent_test-requires : goal.extent_test-requires
+extent_test-requires c =
+    let o = c.args.o in
+    let i = c.args.header.now in
+    total_fits o i (allowed o c.requires) (sym c.in_ok-agreement_test.ensures) (sym c.in_ok-buckets_test.ensures)
+
+pub returns-in_err-extent_test : goal.returns-in_err-extent_test
 unfolding test8 test9
-returns-then-extent-ne-DONE c =
-    let a = c.args in
-    let i = a.image.now in
-    first_after (test8 a.o i) _ tt c.agreement_test-agreement.ensures c.if-agreement-ne-DONE.false
-    (first_after (test9 i) _ tt c.buckets_test-buckets.ensures c.if-buckets-ne-DONE.false
-    (first_stops (test10 i) _ c.extent_test-extent.ensures c.if-extent-ne-DONE.true))
+returns-in_err-extent_test c =
+    let o = c.args.o in
+    let i = c.args.header.now in
+    rw (stage_passes (test8 o i) _ tt c.in_ok-agreement_test.ensures, stage_passes (test9 i) _ tt c.in_ok-buckets_test.ensures)
+    (stage_refuses (test10 i) _ _ _ c.from_residual-in_err-extent_test.ensures.1 c.in_err-extent_test.ensures)
 
-pub returns-then-counters-ne-DONE : goal.returns-then-counters-ne-DONE
+pub returns-in_err-counters_test : goal.returns-in_err-counters_test
 unfolding test8 test9 test10
-returns-then-counters-ne-DONE c =
-    let a = c.args in
-    let i = a.image.now in
-    first_after (test8 a.o i) _ tt c.agreement_test-agreement.ensures c.if-agreement-ne-DONE.false
-    (first_after (test9 i) _ tt c.buckets_test-buckets.ensures c.if-buckets-ne-DONE.false
-    (first_after (test10 i) _ tt c.extent_test-extent.ensures c.if-extent-ne-DONE.false
-    (first_stops (test11 i) _ c.counters_test-counters.ensures c.if-counters-ne-DONE.true)))
+returns-in_err-counters_test c =
+    let o = c.args.o in
+    let i = c.args.header.now in
+    rw (stage_passes (test8 o i) _ tt c.in_ok-agreement_test.ensures, stage_passes (test9 i) _ tt c.in_ok-buckets_test.ensures, stage_passes (test10 i) _ tt c.in_ok-extent_test.ensures)
+    (stage_refuses (test11 i) _ _ _ c.from_residual-in_err-counters_test.ensures.1 c.in_err-counters_test.ensures)
 
 pub returns : goal.returns
 unfolding test8 test9 test10 test11
 returns c =
-    let a = c.args in
-    let i = a.image.now in
-    first_after (test8 a.o i) _ tt c.agreement_test-agreement.ensures c.if-agreement-ne-DONE.false
-    (first_after (test9 i) _ tt c.buckets_test-buckets.ensures c.if-buckets-ne-DONE.false
-    (first_after (test10 i) _ tt c.extent_test-extent.ensures c.if-extent-ne-DONE.false
-    (first_after (test11 i) _ tt c.counters_test-counters.ensures c.if-counters-ne-DONE.false
-    c.dirty_test.ensures)))
+    let o = c.args.o in
+    let i = c.args.header.now in
+    rw (stage_passes (test8 o i) _ tt c.in_ok-agreement_test.ensures, stage_passes (test9 i) _ tt c.in_ok-buckets_test.ensures, stage_passes (test10 i) _ tt c.in_ok-extent_test.ensures, stage_passes (test11 i) _ tt c.in_ok-counters_test.ensures)
+    c.dirty_test.ensures

@@ -1,24 +1,19 @@
 -- `header::open::open_check` meets its contract.
 -- Assumes nothing.
-use mathlib.Core.Path.{refl, sym, ◌∙◌}
-use Rattle.header.specs.Open.{open_of}
-use Rattle.header.proofs.Fit.{fit_length}
-use Rattle.header.proofs.After.{after_fit, after_refused}
+use mathlib.Core.Path.{ap, ◌∙◌}
+use Rattle.std.specs.Prelude.{Ok}
+use Rattle.header.specs.declared.open.UserFields.{UserFields}
+use Rattle.header.specs.HeaderTest.{header_test}
+use Rattle.header.specs.Open.{user_fields, opened, open_of}
+use Rattle.header.proofs.After.{after_done}
+use Rattle.header.proofs.Opening.{opened_refused}
 use Rattle.header.proofs.open.open_check.Goals as goal
 
-pub user_fields-requires : goal.user_fields-requires
-user_fields-requires c =
-    let a = c.args in
-    fit_length a.o a.image.now _ (sym c.judge.ensures ∙ c.in-Fit.is)
+pub returns-in_err-header : goal.returns-in_err-header
+returns-in_err-header c = opened_refused c.args.o c.args.image.now _ _ c.from_residual.ensures.1 c.in_err-header.ensures.numbered
 
-pub returns-in-Fit : goal.returns-in-Fit
+pub returns : goal.returns
 unfolding open_of
-returns-in-Fit c =
-    let a = c.args in
-    rw (after_fit a.o a.image.now _ _ _ (sym c.judge.ensures ∙ c.in-Fit.is), c.user_fields.ensures) refl
-
-pub returns-in-Refused : goal.returns-in-Refused
-unfolding open_of
-returns-in-Refused c =
-    let a = c.args in
-    rw (after_refused a.o a.image.now _ _ _ (sym c.judge.ensures ∙ c.in-Refused.is), c.refused.ensures) refl
+returns c =
+    ap (λ (f : UserFields). opened (Ok f)) (c.user_fields.ensures ∙ ap user_fields c.in_ok-header.ensures.bytes)
+    ∙ after_done (header_test c.args.o c.args.image.now) _ _ c.in_ok-header.ensures.numbered

@@ -1,7 +1,8 @@
 -- `host::check::slc1_full_check_live` meets its contract.
 -- Assumes nothing.
 use mathlib.Core.Path.{ap}
+use Rattle.image.specs.Check.{Checked}
 use Rattle.host.proofs.check.slc1_full_check_live.Goals as goal
 
-pub returns : goal.returns
-returns c = ap (λ r. r.live) c.full_check-checked.ensures
+pub returns-in-Ok : goal.returns-in-Ok
+returns-in-Ok c = ap (λ (x : Checked). x.live) c.in-Ok.ensures

@@ -7,12 +7,9 @@ use Rattle.host.proofs.check.slc1_full_check_results.Goals as goal
 pub returns-then-results-lt-FULL_CHECK_RESULTS : goal.returns-then-results-lt-FULL_CHECK_RESULTS
 returns-then-results-lt-FULL_CHECK_RESULTS c =
     let a = c.args in
-    check_short a.results.now _ (omega (arith, c.if-results-lt-FULL_CHECK_RESULTS.true))
-
-pub write_over-requires : goal.write_over-requires
-write_over-requires c = omega (arith, c.if-results-lt-FULL_CHECK_RESULTS.false)
+    check_short a.results.now _ c.number.ensures (omega (arith, c.if-results-lt-FULL_CHECK_RESULTS.true))
 
 pub returns : goal.returns
 returns c =
     let a = c.args in
-    check_written a.results.now c.full_check-result.result c.full_check-result.ensures c.if-results-lt-FULL_CHECK_RESULTS.false c.write_over.ensures
+    check_written a.results.now c.full_check-checked.result c.full_check-checked.ensures c.number_of-answer.ensures c.from.ensures c.unwrap_or-counts.ensures c.if-results-lt-FULL_CHECK_RESULTS.false c.copy_to.ensures

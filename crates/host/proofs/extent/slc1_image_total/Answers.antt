@@ -1,7 +1,8 @@
 -- `host::extent::slc1_image_total` meets its contract.
 -- Assumes nothing.
 use mathlib.Core.Path.{ap}
+use Rattle.header.specs.declared.extent.Extent.{Extent}
 use Rattle.host.proofs.extent.slc1_image_total.Goals as goal
 
 pub returns : goal.returns
-returns c = ap (λ r. r.total) c.extent_of-extent.ensures
+returns c = ap (λ (e : Extent). e.total) c.extent_of-extent.ensures

@@ -1,16 +1,18 @@
 -- `host::sizes::slc1_total_size` meets its contract.
 -- Assumes nothing.
-use Rattle.host.proofs.PlaceLaws.{total_refused, total_passed, sizes_allowed}
+use mathlib.Core.Path.{sym, ◌∙◌}
+use Rattle.header.proofs.After.{after_done, after_refusal}
+use Rattle.header.proofs.PassedTests.{create_allowed}
+use Rattle.host.specs.Places.{total_of}
 use Rattle.host.proofs.sizes.slc1_total_size.Goals as goal
 
-pub returns-then-create_options_test-ne-DONE : goal.returns-then-create_options_test-ne-DONE
-returns-then-create_options_test-ne-DONE c =
-    total_refused _ _ c.create_options_test.ensures c.if-create_options_test-ne-DONE.true
-
 pub total_size-requires : goal.total_size-requires
-total_size-requires c =
-    sizes_allowed _ _ c.create_options_test.ensures c.if-create_options_test-ne-DONE.false
+total_size-requires c = create_allowed _ (sym c.in-Ok.ensures)
 
-pub returns : goal.returns
-returns c =
-    total_passed _ _ c.create_options_test.ensures c.if-create_options_test-ne-DONE.false c.total_size.ensures
+pub returns-in-Ok : goal.returns-in-Ok
+unfolding total_of
+returns-in-Ok c = c.total_size.ensures ∙ after_done _ _ (λ n. 0) c.in-Ok.ensures
+
+pub returns-in-Err : goal.returns-in-Err
+unfolding total_of
+returns-in-Err c = after_refusal _ _ (λ n. 0) _ c.in-Err.ensures

@@ -3,8 +3,8 @@
 use Rattle.listing.proofs.Pattern.{compared_all, compared_asked}
 use Rattle.listing.proofs.matching.bits_compared.Goals as goal
 
-pub returns-then-bits-ne0 : goal.returns-then-bits-ne0
-returns-then-bits-ne0 c = let a = c.args in compared_asked a.bits a.pattern.now c.if-bits-ne0.true
+pub returns-then-bits-eq0 : goal.returns-then-bits-eq0
+returns-then-bits-eq0 c = let a = c.args in compared_all a.bits a.pattern.now c.if-bits-eq0.true
 
-pub returns : goal.returns
-returns c = let a = c.args in compared_all a.bits a.pattern.now c.if-bits-ne0.false
+pub returns-else-bits-eq0 : goal.returns-else-bits-eq0
+returns-else-bits-eq0 c = let a = c.args in compared_asked a.bits a.pattern.now c.if-bits-eq0.false

@@ -1,38 +1,28 @@
 -- `listing::scan::scan` meets its contract.
 -- Assumes nothing.
+use Prim.Native.Nat.{ℕ}
 use mathlib.Core.Bool.{true}
-use mathlib.Core.Path.{refl, sym, ◌∙◌}
+use mathlib.Core.List.{List}
+use mathlib.Core.Path.{refl}
 use Rattle.header.specs.declared.shape.Shape.{Shape}
-use Rattle.header.proofs.Fit.{fit_shaped}
-use Rattle.image.proofs.Judging.{after_fit, after_refused}
+use Rattle.header.specs.HeaderTest.{header_test}
+use Rattle.header.proofs.After.{after_refusal}
+use Rattle.image.proofs.Judging.{after_open}
 use Rattle.listing.specs.Scan.{Outcome, refused, matches, list, scan_of}
-use Rattle.listing.specs.Select.{test, Right}
-use Rattle.listing.proofs.Listing.{same_outcome}
+use Rattle.listing.proofs.Listing.{same_outcome, says_refused}
 use Rattle.listing.proofs.scan.scan.Goals as goal
 
-pub select-requires : goal.select-requires
-unfolding Right
-select-requires c =
-    let a = c.args in
-    let fit = sym c.judge-judged.ensures ∙ c.in-Fit.is in
-    record { shaped = fit_shaped a.o a.image.now _ fit; right = tt }
-
-pub returns-in-Fit : goal.returns-in-Fit
-unfolding scan_of test
-returns-in-Fit c =
-    let a = c.args in
-    let go : Shape → Outcome = λ s. list (matches s a.image.now (λ key. true)) a.skip a.limit a.numbers.now in
-    let e =
-    after_fit go (refused a.numbers.now) a.o a.image.now _
-    (sym c.judge-judged.ensures ∙ c.in-Fit.is) in
-    same_outcome e c.select.ensures
-
-pub returns-in-Refused : goal.returns-in-Refused
+pub returns-in_err-image : goal.returns-in_err-image
 unfolding scan_of
-returns-in-Refused c =
+returns-in_err-image c =
     let a = c.args in
-    let go : Shape → Outcome = λ s. list (matches s a.image.now (λ key. true)) a.skip a.limit a.numbers.now in
-    let e =
-    after_refused go (refused a.numbers.now) a.o a.image.now _
-    (sym c.judge-judged.ensures ∙ c.in-Refused.is) in
-    same_outcome e (c.refused.ensures, refl)
+    same_outcome _ (after_refusal (header_test a.o a.image.now) _ (refused a.numbers.now) _ c.in_err-image.ensures.numbered)
+    (says_refused a.numbers.now _ _ c.from_residual.ensures.1 refl)
+
+pub returns : goal.returns
+unfolding scan_of
+returns c =
+    let a = c.args in
+    let go : Shape → List ℕ → Outcome = λ s bytes. list (matches s bytes (λ key. true)) a.skip a.limit a.numbers.now in
+    let e = c.in_ok-image.ensures in
+    same_outcome _ (after_open go (refused a.numbers.now) a.o a.image.now _ _ e.numbered e.bytes e.shape) c.select.ensures

@@ -1,31 +1,25 @@
--- `listing::select::count_wanted` meets its contract. The loop's invariant: n is the next that is wanted, and the total counts those below it.
+-- `listing::select::count_wanted` meets its contract.
 -- Assumes nothing.
-use borrow.Author.Rules.{rules}
-use mathlib.Core.Path.{◌≡◌, sym, ap}
-use native.Mathlib.Omega.{arith}
+use Prim.Native.Nat.{ℕ}
+use mathlib.Core.Path.{sym, ◌∙◌, ap}
 use lib.ListN.{length}
+use Rattle.std.proofs.Common.{rules}
+use Rattle.std.specs.List.{filter}
 use Rattle.listing.specs.Scan.{passing}
-use Rattle.listing.proofs.Next.{next_itself, next_count}
+use Rattle.listing.specs.Select.{wanted_at}
+use Rattle.listing.proofs.Numbers.{numbers_first, numbers_all}
+use Rattle.listing.proofs.Passing.{passing_filter}
 use Rattle.listing.proofs.select.count_wanted.Goals as goal
 
-pub loop-n-init : goal.loop-n-init
-unfolding passing
-loop-n-init c =
-    let r = c.next_wanted-n.ensures in
-    (search rules, sym (ap length r.none), next_itself r)
-
-pub next_wanted-n-requires-in-loop-n : goal.next_wanted-n-requires-in-loop-n
-next_wanted-n-requires-in-loop-n c = record { shaped = search rules; right = search rules; n_bound = search rules }
-
-pub loop-n-preserved : goal.loop-n-preserved
-loop-n-preserved c =
-    let l = c.loop-n in
-    let r = c.next_wanted-n-in-loop-n.ensures in
-    (search rules, omega (arith, l.invariant.1, ap length r.none, next_count l.invariant.2 c.loop-n-test.true), next_itself r)
-
 pub returns : goal.returns
-returns c =
+returns g c =
     let a = c.args in
-    let l = c.loop-n in
-    let top : l.n ≡ a.s.slot_highwater = omega arith in
-    rw top at l.invariant.1
+    let test = wanted_at a.image.now.shape a.image.now.bytes.now (g.W.Wanted.test a.wanted.now) in
+    let run = c.count.ensures.runs in
+    let from = c.filter.ensures.runs run.0 run.0.seen run.1 in
+    let kept = from.2.4 test (λ x r f e. search rules) in
+    let all = numbers_all a.image.now.shape.slot_highwater from.0 from.1 (from.2.0 ∙ run.2) in
+    let numbers = numbers_first a.image.now.shape.slot_highwater from.0 from.1 in
+    run.3 ∙ run.0.long
+    ∙ ap length (kept ∙ ap (filter test) numbers ∙ sym (passing_filter test from.0.len))
+    ∙ ap (λ (n : ℕ). length (passing n test)) all

@@ -1,43 +1,36 @@
 -- `listing::select::select` meets its contract.
 -- Assumes nothing.
-use mathlib.Core.Path.{refl, sym, ◌∙◌}
-use native.Mathlib.Omega.{arith}
+use Prim.Native.Nat.{min}
+use mathlib.Core.Path.{refl, sym, ◌∙◌, ap}
+use borrow.Author.Tests.{ltb-true, ltb-false}
+use Rattle.std.specs.Prelude.{Ok}
+use Rattle.header.proofs.Firsts.{fails}
 use Rattle.listing.specs.Scan.{matches}
 use Rattle.listing.specs.Select.{wanted_at}
-use Rattle.listing.proofs.Listing.{same_outcome, list_short, list_fits}
-use borrow.Author.Rules.{rules}
+use Rattle.listing.proofs.Listing.{same_outcome, says_refused, test_refused, list_short, list_fits}
 use Rattle.listing.proofs.select.select.Goals as goal
 
-pub returns-then-numbers-count : goal.returns-then-numbers-count
+pub returns-in_err-refuse_if : goal.returns-in_err-refuse_if
 unfolding matches wanted_at
-returns-then-numbers-count c =
+returns-in_err-refuse_if g c =
     let a = c.args in
+    let r = test_refused _ _ _ c.in_err-refuse_if.ensures in
     let e =
     list_short _ a.skip a.limit a.numbers.now
-    c.count_wanted-total.result c.to_write-count.result
-    c.count_wanted-total.ensures c.to_write-count.ensures c.if-numbers-count.true in
-    same_outcome e (c.refused.ensures, refl)
+    c.count_wanted-total.result c.min-count.result
+    c.count_wanted-total.ensures (c.min-count.ensures ∙ ap (min a.limit) c.saturating_sub.ensures) (ltb-true _ _ r.0) in
+    same_outcome _ e (says_refused a.numbers.now _ _ c.from_residual.ensures.1 r.1)
 
-pub returns-then-count-eq0 : goal.returns-then-count-eq0
-unfolding matches wanted_at
-returns-then-count-eq0 c =
-    let a = c.args in
-    let e =
-    list_fits _ a.skip a.limit a.numbers.now
-    c.count_wanted-total.result 0 c.count_wanted-total.ensures
-    (sym c.if-count-eq0.true ∙ c.to_write-count.ensures) (omega arith) in
-    same_outcome e (refl, refl)
-
-pub write_wanted-requires : goal.write_wanted-requires
-write_wanted-requires c = record { shaped = search rules; right = search rules; count_in_bounds = search rules; count_in_bounds_2 = search rules }
+pub write_wanted-requires-clause-room : goal.write_wanted-requires-clause-room
+write_wanted-requires-clause-room g c = ltb-false _ _ (fails _ 10 (sym c.in_ok-refuse_if.ensures))
 
 pub returns : goal.returns
 unfolding matches wanted_at
-returns c =
+returns g c =
     let a = c.args in
     let e =
     list_fits _ a.skip a.limit a.numbers.now
-    c.count_wanted-total.result c.to_write-count.result
-    c.count_wanted-total.ensures c.to_write-count.ensures
-    c.if-numbers-count.false in
-    same_outcome e (refl, c.write_wanted.ensures)
+    c.count_wanted-total.result c.min-count.result
+    c.count_wanted-total.ensures (c.min-count.ensures ∙ ap (min a.limit) c.saturating_sub.ensures)
+    (ltb-false _ _ (fails _ 10 (sym c.in_ok-refuse_if.ensures))) in
+    same_outcome (Ok (record { total = c.count_wanted-total.result; written = c.min-count.result })) e (refl, c.write_wanted.ensures)

@@ -1,25 +1,14 @@
--- `numbers::parts::clear` meets its contract. The loop's invariant: i zeros have been put.
+-- `numbers::parts::clear` meets its contract: what a write leaves of a slice is a put.
 -- Assumes nothing.
 use borrow.Author.Rules.{rules}
-use mathlib.Core.Path.{◌≡◌, refl, sym}
-use Rattle.numbers.proofs.Put.{put_none, put_cleared}
+use native.Mathlib.Omega.{arith}
+use Prim.Native.Nat.{ℕ}
+use mathlib.Core.Path.{◌∙◌, ap}
+use lib.ListN.{replicate, length-replicate}
+use Rattle.numbers.proofs.Put.{part_written}
 use Rattle.numbers.proofs.parts.clear.Goals as goal
-
-pub loop-i-init : goal.loop-i-init
-loop-i-init c = (search rules, search rules, sym (put_none _ _))
-
-pub loop-i-preserved : goal.loop-i-preserved
-loop-i-preserved c =
-    let l = c.loop-i in
-    let a = c.args in
-    (search rules, search rules, rw l.invariant.2 (put_cleared a.dst.now a.at a.n l.i c.requires (search rules)))
-
-pub shape_of-dst : goal.shape_of-dst
-shape_of-dst c = c.loop-i.invariant.1
 
 pub returns : goal.returns
 returns c =
-    let l = c.loop-i in
-    let a = c.args in
-    let e : l.i ≡ a.n = search rules in
-    rw (l.invariant.2, e) refl
+    part_written c.args.dst.now c.args.at _ _ (replicate c.args.n 0) (rw length-replicate (omega arith))
+    (c.fill.ensures.after (λ y same. same) ∙ ap (λ (k : ℕ). replicate k 0) (search rules))

@@ -1,9 +1,12 @@
--- `numbers::words::put_u64` meets its contract: the lower four bytes, and behind them the upper four.
+-- `numbers::words::put_u64` meets its contract: what std writes are the bytes of the word.
 -- Assumes nothing.
-use Rattle.numbers.proofs.Word.{two_words}
+use mathlib.Core.Path.{◌∙◌, ap}
+use mathlib.Core.List.{List}
+use Prim.Native.Nat.{ℕ}
+use Rattle.numbers.specs.Bytes.{put}
+use Rattle.numbers.proofs.Word.{to_bytes}
 use Rattle.numbers.proofs.words.put_u64.Goals as goal
 
 pub returns : goal.returns
 returns c =
-    two_words c.args.s.now c.args.at c.args.x c.requires c.put_u32.ensures
-    c.put_u32-2.ensures
+    c.copy_to.ensures ∙ ap (λ (bs : List ℕ). put c.args.s.now c.args.at bs) (c.to_le_bytes.ensures ∙ to_bytes 8 c.args.x)

@@ -1,16 +1,14 @@
 -- `slots::slots::index_slot` meets its contract.
 -- Assumes nothing.
-use borrow.Author.Rules.{rules}
 use mathlib.Core.Path.{◌≡◌, sym, ap, subst, ◌∙◌}
 use native.Mathlib.Omega.{arith}
 use Prim.Native.Nat.{ℕ, ◌+◌, ◌≤◌}
 use mathlib.Core.List.{List}
 use lib.ListN.{length}
-use Rattle.digests.specs.Fnv.{fnv1a64}
 use Rattle.probing.specs.Change.{place}
-use Rattle.probing.specs.Report.{Missing, Hint}
 use Rattle.image.specs.Table.{bucket_at, key_of, table_of}
 use Rattle.image.proofs.Places.{bucket_inside}
+use Rattle.slots.specs.Slots.{Hinted}
 use Rattle.slots.proofs.Table.Indexed.{bucket_below, indexes}
 use Rattle.slots.proofs.slots.index_slot.Goals as goal
 use Rattle.slots.proofs.slots.index_slot.Goals.{After-place_for-place}
@@ -27,16 +25,13 @@ inside c =
     subst (λ (b : ℕ). bucket_at a.s.layout b + 16 ≤ length a.image.now) (sym (found c))
     (bucket_inside a.s.layout a.image.now pre.shaped.laid _ (bucket_below a.s a.image.now pre.shaped a.n pre.n_bound))
 
-pub place_for-place-requires : goal.place_for-place-requires
-place_for-place-requires c =
-    let a = c.args in
-    let pre = c.requires in
-    let t = table_of a.s a.image.now in
-    let same = sym c.key_of.ensures in
-    record { shaped = search rules; hash_value = pre.hash_value ∙ ap fnv1a64 same; missing = subst (Missing t) same pre.missing; hint = subst (λ (k : List ℕ). Hint t k a.hint) same pre.hint }
-
 pub bucket_at-at-requires : goal.bucket_at-at-requires
 bucket_at-at-requires c = omega (arith, inside (goal.at.bucket_at-at-requires c).After-place_for-place)
+
+pub place_for-place-requires-clause-hint : goal.place_for-place-requires-clause-hint
+place_for-place-requires-clause-hint c =
+    let a = c.args in
+    subst (λ (k : List ℕ). Hinted (table_of a.s a.image.now) k a.hint) (sym c.key_of.ensures) c.requires.hint
 
 pub put_u64-requires : goal.put_u64-requires
 put_u64-requires c = omega (arith, c.bucket_at-at.ensures, inside (goal.at.put_u64-requires c).After-place_for-place)

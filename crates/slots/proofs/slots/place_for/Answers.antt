@@ -1,22 +1,39 @@
 -- `slots::slots::place_for` meets its contract: a bucket that is not FULL is the place, if it was noted; else the report leaves it.
 -- Assumes nothing.
-use mathlib.Core.Path.{sym, ap, ◌∙◌}
+use Prim.Native.Nat.{◌<◌}
+use mathlib.Core.Path.{◌≡◌, sym, ap, ◌∙◌}
+use mathlib.Core.Bool.{false}
+use mathlib.Core.Logic.{inl, inr}
+use Rattle.probing.specs.Report.{Hint}
 use Rattle.probing.specs.Table.{is_full}
 use Rattle.image.specs.Table.{bucket_of, table_of}
-use Rattle.image.proofs.BucketSays.{from_empty, from_tombstone}
+use Rattle.image.specs.Told.{bucket_read}
 use Rattle.slots.proofs.Table.Indexed.{reported_place}
 use Rattle.slots.proofs.slots.place_for.Goals as goal
+use Rattle.slots.proofs.slots.place_for.Goals.{In-Some}
 
-pub returns-then-slot_plus1-eq0 : goal.returns-then-slot_plus1-eq0
-unfolding table_of bucket_of
-returns-then-slot_plus1-eq0 c =
-    sym (c.requires.hint c.if-hint-s.true (ap is_full (from_empty _ _ (sym c.slot_plus1_of-slot_plus1.ensures ∙ c.if-slot_plus1-eq0.true))))
+-- the bucket noted is one, and a hint
+hinted : (c : In-Some) → let a = c.args in let t = table_of a.image.now.shape a.image.now.bytes.now in
+    (c.in-Some.noted < t.B) × Hint t a.key.now c.in-Some.noted
+hinted c = rw c.in-Some.is at c.requires.hint
 
-pub returns-then-slot_plus1 : goal.returns-then-slot_plus1
-unfolding table_of bucket_of
-returns-then-slot_plus1 c =
-    sym (c.requires.hint c.if-hint-s.true (ap is_full (from_tombstone _ _ (sym c.slot_plus1_of-slot_plus1.ensures ∙ c.if-slot_plus1.true))))
+pub bucket_of-requires : goal.bucket_of-requires
+unfolding table_of
+bucket_of-requires c = (hinted (goal.at.bucket_of-requires c).In-Some).0
+
+pub returns-in-Empty : goal.returns-in-Empty
+unfolding table_of
+returns-in-Empty c =
+    let a = c.args in
+    let says = sym c.bucket_of.ensures in
+    let free : is_full (bucket_of a.image.now.shape.layout a.image.now.bytes.now c.in-Some.noted) ≡ false = elim c.in-Empty.is [
+      | inl e ↦ ap is_full (says ∙ ap bucket_read e)
+      | inr e ↦ ap is_full (says ∙ ap bucket_read e)
+    ] in
+    let hint = hinted (goal.at.returns-in-Empty c).In-Some in
+    sym (hint.1 hint.0 free)
 
 pub returns : goal.returns
 returns c =
-    c.free_bucket.ensures ∙ reported_place c.args.s c.args.image.now c.args.key.now _ c.probe_hashed.ensures c.requires.missing
+    let a = c.args in
+    c.free_bucket.ensures ∙ reported_place a.image.now.shape a.image.now.bytes.now a.key.now _ c.probe_hashed.ensures c.requires.missing

@@ -1,43 +1,41 @@
--- `writing::judge::judge_change` meets its contract: what a writer is told, and of an image that fits the state and the generation.
+-- `writing::judge::judge_change` meets its contract: the tests of every writing call, then the state, then the generation.
 -- Assumes nothing.
 use mathlib.Core.Path.{sym, ◌∙◌}
-use native.Mathlib.Omega.{arith}
+use mathlib.Core.List.{[], ◌∷◌, append_assoc}
+use lib.Dec.{eqb}
+use Rattle.header.specs.Answer.{needs_rebuild, invalid_input}
+use Rattle.header.specs.State.{CLEAN, last_generation}
+use Rattle.header.proofs.Firsts.{stage_refuses, stage_passes}
 use Rattle.writing.specs.State.{writing_tests, user_tests}
-use Rattle.writing.proofs.Verdicts.{tells_number, tells_shape, told_passed, told_shape, told_state, told_generation, told_number}
-use Rattle.writing.proofs.MoreTests.{user_stops, user_clean, user_last, user_passes}
+use Rattle.writing.proofs.MoreTests.{user_behind}
 use Rattle.writing.proofs.judge.judge_change.Goals as goal
 
-pub returns-then-shape-eq-CLEAN : goal.returns-then-shape-eq-CLEAN
-returns-then-shape-eq-CLEAN c =
-    let o = c.args.o in
-    let i = c.args.image.now in
-    let ts = writing_tests o i in
-    let e = sym c.judge_writer.ensures ∙ c.in-Fit.is in
-    tells_number (user_tests o i) i (user_clean o i (told_passed ts i e) (sym (told_state ts i e) ∙ c.if-shape-eq-CLEAN.true)) (λ x. omega arith)
+pub returns-in_err-shape-clause-numbered : goal.returns-in_err-shape-clause-numbered
+unfolding user_tests
+returns-in_err-shape-clause-numbered c =
+    let a = c.args in
+    rw append_assoc (stage_refuses (writing_tests a.o a.image.now) _ _ _ c.from_residual.ensures.1 c.in_err-shape.ensures.numbered)
 
-pub returns-then-shape : goal.returns-then-shape
-returns-then-shape c =
-    let o = c.args.o in
-    let i = c.args.image.now in
-    let ts = writing_tests o i in
-    let e = sym c.judge_writer.ensures ∙ c.in-Fit.is in
-    let dirty = c.if-shape-eq-CLEAN.false in
-    tells_number (user_tests o i) i
-    (user_last o i (told_passed ts i e) (λ x. dirty (told_state ts i e ∙ x)) (sym (told_generation ts i e) ∙ c.if-shape.true)) (λ x. omega arith)
+pub returns-in_err-refuse_if-clause-numbered : goal.returns-in_err-refuse_if-clause-numbered
+returns-in_err-refuse_if-clause-numbered c =
+    let a = c.args in
+    let s = c.in_ok-shape.shape in
+    stage_refuses ((eqb s.state CLEAN, invalid_input) ∷ []) ((eqb s.generation last_generation, needs_rebuild) ∷ []) _ _
+    c.from_residual-in_err-refuse_if.ensures.1 c.in_err-refuse_if.ensures
+    ∙ sym (user_behind a.o a.image.now c.in_ok-shape.ensures.numbered c.in_ok-shape.ensures.shape)
 
-pub returns-else-shape : goal.returns-else-shape
-returns-else-shape c =
-    let o = c.args.o in
-    let i = c.args.image.now in
-    let ts = writing_tests o i in
-    let e = sym c.judge_writer.ensures ∙ c.in-Fit.is in
-    let dirty = c.if-shape-eq-CLEAN.false in
-    let passes = user_passes o i (told_passed ts i e) (λ x. dirty (told_state ts i e ∙ x)) (λ x. c.if-shape.false (told_generation ts i e ∙ x)) in
-    tells_shape (user_tests o i) i passes (told_shape ts i e)
+pub returns-in_err-refuse_if-2-clause-numbered : goal.returns-in_err-refuse_if-2-clause-numbered
+returns-in_err-refuse_if-2-clause-numbered c =
+    let a = c.args in
+    let s = c.in_ok-shape.shape in
+    stage_refuses ((eqb s.generation last_generation, needs_rebuild) ∷ []) [] _ _ c.from_residual-in_err-refuse_if-2.ensures.1 c.in_err-refuse_if-2.ensures
+    ∙ sym (user_behind a.o a.image.now c.in_ok-shape.ensures.numbered c.in_ok-shape.ensures.shape
+    ∙ stage_passes ((eqb s.state CLEAN, invalid_input) ∷ []) _ tt c.in_ok-refuse_if.ensures)
 
-pub returns-in-Refused : goal.returns-in-Refused
-returns-in-Refused c =
-    let o = c.args.o in
-    let i = c.args.image.now in
-    let r = told_number (writing_tests o i) i (sym c.judge_writer.ensures ∙ c.in-Refused.is) in
-    tells_number (user_tests o i) i (user_stops o i r.0 r.1) r.1
+pub returns-clause-numbered : goal.returns-clause-numbered
+returns-clause-numbered c =
+    let a = c.args in
+    let s = c.in_ok-shape.shape in
+    c.in_ok-refuse_if-2.ensures
+    ∙ sym (user_behind a.o a.image.now c.in_ok-shape.ensures.numbered c.in_ok-shape.ensures.shape
+    ∙ stage_passes ((eqb s.state CLEAN, invalid_input) ∷ []) _ tt c.in_ok-refuse_if.ensures)

@@ -1,0 +1,9 @@
+-- `host::write::slc1_begin` meets its contract.
+-- Assumes nothing.
+use mathlib.Core.Path.{◌∙◌}
+use Rattle.host.proofs.write.slc1_begin.Goals as goal
+
+pub returns : goal.returns
+returns c =
+    let told = c.begin.ensures in
+    (c.number_of.ensures ∙ told.0, told.1)
