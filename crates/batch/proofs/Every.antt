@@ -65,3 +65,7 @@ one_le false = omega arith
 pub flag_up : (b : Bool) → one b ≡ 1 → b ≡ true
 flag_up true e = refl
 flag_up false e = absurd (omega arith)
+
+pub flag_down : (b : Bool) → (one b ≡ 1 → ⊥) → b ≡ false
+flag_down true d = absurd (d refl)
+flag_down false d = refl

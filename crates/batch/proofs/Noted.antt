@@ -1,10 +1,11 @@
 -- What is noted for each record, one after the other.
 -- Assumes nothing.
-use Prim.Native.Nat.{ℕ, ◌+◌, ◌<◌, ◌≤◌}
+use Prim.Native.Nat.{ℕ, suc, ◌+◌, ◌<◌, ◌≤◌}
 use mathlib.Core.Bool.{Bool, false}
 use mathlib.Core.Path.{◌≡◌, ◌∙◌, sym}
 use mathlib.Core.Logic.{◌⊎◌, inl, inr}
 use mathlib.Core.List.{List}
+use native.Mathlib.Nat.{eq-or-lt_of_le}
 use native.Mathlib.Numerals.{add-one}
 use native.Mathlib.Omega.{arith}
 use lib.ListN.{length, set, get_or, replicate, length-set, length-replicate, get_or-replicate, get_or-eq_default}
@@ -12,7 +13,7 @@ use lib.Seq.{get_or-set_same, get_or-set_other, ext_get_or}
 use Rattle.probing.proofs.Counting.{one_more}
 use Rattle.probing.proofs.Order.{lower_or_not}
 use Rattle.batch.specs.Batch.{most_records}
-use Rattle.batch.specs.Notes.{NotedAs}
+use Rattle.batch.specs.Notes.{NotedAs, Flagged}
 
 abbrev pub zeros : ℕ → List ℕ
 zeros m = replicate m 0
@@ -81,3 +82,21 @@ from_none f n l =
       each = λ j h m. absurd (omega arith);
       rest = λ j h. same_at false most_records j;
     }
+
+-- one more
+pub from_one : {f : ℕ → Bool} {n : ℕ} {xs : List Bool} (i : ℕ) (x : Bool) → FlaggedFrom f n xs (suc i) → i < n → x ≡ f i → FlaggedFrom f n (set xs i x) i
+from_one {f} {n} {xs} i x flagged l e =
+    record {
+      size = length-set xs i x ∙ flagged.size;
+      fits = flagged.fits;
+      each = λ j h m. go j m (eq-or-lt_of_le h);
+      rest = λ j h. get_or-set_other xs i j x false (omega arith) ∙ flagged.rest j h;
+    }
+  where
+    go : (j : ℕ) → j < n → (i ≡ j) ⊎ (i < j) → get_or (set xs i x) j false ≡ f j
+    go j m (inl q) = rw (← q) (get_or-set_same xs i x false (omega (arith, flagged.size, flagged.fits)) ∙ e)
+    go j m (inr q) = get_or-set_other xs i j x false (omega arith) ∙ flagged.each j q m
+
+-- all of them
+pub from_all : {f : ℕ → Bool} {n : ℕ} {xs : List Bool} → FlaggedFrom f n xs 0 → Flagged f n xs
+from_all flagged = record { size = flagged.size; fits = flagged.fits; each = λ j m. flagged.each j (omega arith) m; rest = flagged.rest }

@@ -26,7 +26,7 @@ length_columns n i zero = refl
 length_columns n i (suc w) = ap suc (length_columns n (suc i) w)
 
 -- mixed by a number of w bits they are what the bits make of it
-columns_mix : (n i w x : ℕ) → x < 2 ^ w → mixed 0 (columns_from n i w) x ≡ crc_bits n (x * 2 ^ i)
+pub columns_mix : (n i w x : ℕ) → x < 2 ^ w → mixed 0 (columns_from n i w) x ≡ crc_bits n (x * 2 ^ i)
 unfolding mixed columns_from
 columns_mix n i zero x h =
     let e : x ≡ 0 = omega arith in
@@ -67,7 +67,7 @@ and_right true b t = t
 and_right false b t = absurd t
 
 -- numbers that pass the test are what the bits make of single bits
-passes : (n i v : ℕ) (bs : List ℕ) → v ≡ crc_bits n (2 ^ (i + length bs)) → T (descend v bs) → bs ≡ columns_from n i (length bs)
+pub passes : (n i v : ℕ) (bs : List ℕ) → v ≡ crc_bits n (2 ^ (i + length bs)) → T (descend v bs) → bs ≡ columns_from n i (length bs)
 unfolding descend columns_from
 passes n i v [] e t = refl
 passes n i v (b ∷ bs) e t =

@@ -1,7 +1,7 @@
--- The bits of CRC32-C: what they do is linear over exclusive or, and goes on from bits to bits.
+-- The bits of CRC32-C: what they do is linear over exclusive or, and goes on from bits to bits. And a product modulo a number, as a sum.
 -- Assumes nothing.
-use Rattle.std.proofs.Common.{◌≡◌, ℕ, zero, suc, ◌+◌, ◌*◌, ◌/◌, ◌%◌, ◌^◌, ◌<◌, ◌≤◌, cond, eqb, sym, refl, ap, ◌∙◌, mod-eq_of_lt, suc-add, zero-add, mul-one, add-one, arith, pow_pos, pow_mono}
-use native.Mathlib.Nat.{add-mod, two-pow-succ}
+use Rattle.std.proofs.Common.{◌≡◌, ℕ, zero, suc, ◌+◌, ◌*◌, ◌/◌, ◌%◌, ◌^◌, ◌<◌, ◌≤◌, cond, eqb, sym, refl, ap, ◌∙◌, mod-eq_of_lt, suc-add, zero-add, mul-one, add-one, add_assoc, mul_assoc, add-mul, mul-add, div-add-mod', arith, pow_pos, pow_mono}
+use native.Mathlib.Nat.{add-mod, mod-add-mod, add-mul-mod_self_right, two-pow-succ}
 use lib.Bits.{bit_xor, xor_comm, xor_zero_r, xor_self, xor_lt, shifted_half, shifted_even}
 use Rattle.digests.specs.Crc.{crc_bit, crc_bits}
 use Rattle.digests.proofs.Xor.{xor_digit, xor_half, xor_pairs, xor_split}
@@ -100,3 +100,10 @@ in_parts n m x e f = rw (e, f) (sym (bits_split n m x))
 -- by its low digits, where it has no others
 pub low_alone : (n m x : ℕ) {p : ℕ} → x < 2 ^ n → p ≡ crc_bits m (x % 2 ^ n) → p ≡ crc_bits m x
 low_alone n m x h e = e ∙ ap (crc_bits m) (mod-eq_of_lt h)
+
+-- a product modulo a number: p copies of x, and k of x modulo m, are p + k copies modulo m times k
+pub copies_add : (x p m k : ℕ) {a r : ℕ} → a ≡ x * p % (m * k) → r ≡ (a + x % m * k) % (m * k) → r ≡ x * (p + k) % (m * k)
+copies_add x p m k ea er =
+    let whole : x * k ≡ x % m * k + x / m * (m * k) =
+    ap (λ (n : ℕ). n * k) (sym (div-add-mod' x m)) ∙ add-mul (x / m * m) (x % m) k ∙ rw (mul_assoc (x / m) m k) (omega arith) in
+    rw (er, ea, mod-add-mod, mul-add x p k, whole, ← add_assoc (x * p), add-mul-mod_self_right) refl

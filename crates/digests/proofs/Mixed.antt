@@ -21,6 +21,12 @@ mixed_from s (b ∷ bs) x =
     (mixed_from (bit_xor s b) bs (x / 2) ∙ xor_assoc s b (mixed 0 bs (x / 2)) ∙ ap (bit_xor s) (sym (mixed_from b bs (x / 2))))
     (x % 2) (omega arith)
 
+-- with no bit of x there is s alone
+pub mixed_none : (s : ℕ) (bs : List ℕ) → mixed s bs 0 ≡ s
+unfolding mixed
+mixed_none s [] = refl
+mixed_none s (b ∷ bs) = mixed_none s bs
+
 -- with no number there is 0
 pub mixed_nothing : (x : ℕ) → mixed 0 [] x ≡ 0
 unfolding mixed
@@ -59,7 +65,7 @@ ends_in xs x d l e f =
     f ∙ ap (λ (ys : List ℕ). mixed 0 ys d) (sym (five xs l)) ∙ ap (mixed 0 xs) (sym e) ∙ ap (λ (n : ℕ). mixed 0 xs (x % 2 ^ n)) (sym l) ∙ mixed_low 0 xs x
 
 -- one more digit behind others
-further : (cs bs : List ℕ) (x : ℕ) {p r : ℕ} → p ≡ mixed 0 cs x → r ≡ mixed 0 bs (x / 2 ^ length cs) → bit_xor p r ≡ mixed 0 (cs ++ bs) x
+pub further : (cs bs : List ℕ) (x : ℕ) {p r : ℕ} → p ≡ mixed 0 cs x → r ≡ mixed 0 bs (x / 2 ^ length cs) → bit_xor p r ≡ mixed 0 (cs ++ bs) x
 further cs bs x e f = rw (mixed_append 0 cs bs x, mixed_from (mixed 0 cs x) bs (x / 2 ^ length cs), e, f) refl
 
 -- each list has five numbers

@@ -1,10 +1,11 @@
 -- When a pattern is wrong, and what is known of one that is not.
 -- Assumes nothing.
-use Prim.Native.Nat.{ℕ, ◌+◌, ◌*◌, ◌/◌}
+use Prim.Native.Nat.{ℕ, ◌+◌, ◌*◌, ◌-◌, ◌/◌, ◌≤◌}
 use mathlib.Core.Bool.{Bool, true, false, not, ◌||◌}
-use mathlib.Core.Path.{◌≡◌, refl}
+use mathlib.Core.Path.{◌≡◌, refl, sym}
 use mathlib.Core.List.{List}
-use borrow.Author.Tests.{eqb-true, eqb-false, eq-eqb, ne_eqb, ltb-false, not-false}
+use native.Mathlib.Omega.{arith}
+use borrow.Author.Tests.{eqb-true, eqb-false, eq-eqb, ne_eqb, ltb-true, ltb-false, lt-ltb, le-ltb, not-false}
 use lib.Dec.{eqb, ltb}
 use lib.ListN.{length}
 use Rattle.header.specs.declared.shape.Shape.{Shape}
@@ -20,6 +21,14 @@ compared_all bits pattern z = rw (eq-eqb bits 0 z) refl
 pub compared_asked : (bits : ℕ) (pattern : List ℕ) → (bits ≡ 0 → ⊥) → bits ≡ bits_compared bits pattern
 unfolding bits_compared
 compared_asked bits pattern some = rw (ne_eqb bits 0 some) refl
+
+-- no sum is needed to see that a part ends past k
+pub past : (k l o : ℕ) → l ≤ k → ltb (k - l) o ≡ ltb k (o + l)
+past k l o h = go (ltb (k - l) o) refl
+  where
+    go : (t : Bool) → ltb (k - l) o ≡ t → t ≡ ltb k (o + l)
+    go true e = let m = ltb-true (k - l) o e in sym (lt-ltb k (o + l) (omega arith))
+    go false e = let m = ltb-false (k - l) o e in sym (le-ltb k (o + l) (omega arith))
 
 or_true : (t : Bool) → (t || true) ≡ true
 or_true true = refl

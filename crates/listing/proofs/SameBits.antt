@@ -97,7 +97,7 @@ module _ (xs ys : List ℕ) (i j : ℕ) (hx : get_or xs i 0 < 256) (hy : get_or 
       ∙ same_upper (get_or xs i 0) (get_or ys j 0) n hx hy h
 
   -- more: the two bytes, and then what follows them
-  same_step :
+  pub same_step :
       (n : ℕ)
       → same_bits (8 + n) (drop i xs) (drop j ys)
       ≡ (eqb (get_or xs i 0) (get_or ys j 0) && same_bits n (drop (i + 1) xs) (drop (j + 1) ys))

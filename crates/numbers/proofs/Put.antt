@@ -2,12 +2,12 @@
 -- Assumes nothing.
 use Prim.Native.Nat.{ℕ, suc, ◌+◌, ◌-◌, ◌≤◌, ◌<◌}
 use mathlib.Core.Path.{◌≡◌, refl, sym, ap, ◌∙◌}
-use mathlib.Core.List.{List, ◌∷◌, ◌++◌, append_assoc}
-use native.Mathlib.Nat.{add_assoc}
+use mathlib.Core.List.{List, ◌∷◌, ◌++◌, append_assoc, append-nil}
+use native.Mathlib.Nat.{zero-add, add_assoc}
 use native.Mathlib.Numerals.{add-one}
 use native.Mathlib.Omega.{arith}
 use borrow.Rule.Slice.PartMut.{put_mid}
-use lib.ListN.{length, get_or, take, drop, length-append, length-drop}
+use lib.ListN.{length, get_or, take, drop, length-append, length-drop, drop_of_length-le}
 use lib.Seq.{drop-cons, length-take-le, take-add, drop-drop, take_at, take-append-le, drop-append-le, drop-append-add}
 use Rattle.numbers.specs.Bytes.{part, put}
 
@@ -43,6 +43,11 @@ pub part_written : {A : Type 0} (s : List A) (at k : ℕ) (now bs : List A) → 
 unfolding put
 part_written s at k now bs size e =
     rw (e, size, drop-drop (length bs) at s) (sym (append_assoc (take at s) bs (drop (at + length bs) s)))
+
+-- as many as there are, put at the start, are all there is
+pub put_all : {A : Type 0} (s bs : List A) → length bs ≡ length s → put s 0 bs ≡ bs
+unfolding put
+put_all s bs e = rw (zero-add, drop_of_length-le s {i = length bs} (omega arith)) (append-nil bs)
 
 head_length : (s : List ℕ) (at : ℕ) (bs : List ℕ) → at ≤ length s → length (take at s ++ bs) ≡ at + length bs
 head_length s at bs h = rw (length-append, length-take-le at s h) refl

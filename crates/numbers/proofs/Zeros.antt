@@ -1,9 +1,10 @@
 -- Zeros: as a word, as bytes that are all zero, and their parts.
 -- Assumes nothing.
-use Prim.Native.Nat.{ℕ, zero, suc, ◌+◌, ◌*◌, ◌/◌, ◌≤◌, ◌<◌}
+use Prim.Native.Nat.{ℕ, zero, suc, ◌+◌, ◌*◌, ◌-◌, ◌/◌, ◌≤◌, ◌<◌}
 use mathlib.Core.Bool.{Bool, true, ◌&&◌, and_assoc}
 use mathlib.Core.Path.{◌≡◌, refl, sym, ap, ◌∙◌}
 use mathlib.Core.List.{List, [], ◌∷◌, ◌++◌}
+use native.Mathlib.Nat.{mul-add}
 use native.Mathlib.Omega.{arith}
 use borrow.Author.Tests.{ne_eqb}
 use lib.Dec.{eqb, eqb-suc-zero}
@@ -15,7 +16,7 @@ use Rattle.std.specs.Int.{from_le_bytes}
 use Rattle.std.specs.List.{list_all}
 use Rattle.std.specs.Simd.{first_chunks}
 use Rattle.numbers.specs.Bytes.{part, word, all_zero}
-use Rattle.numbers.proofs.Put.{length_part}
+use Rattle.numbers.proofs.Put.{length_part, part_add}
 use Rattle.numbers.proofs.PutPart.{get_d_part}
 use Rattle.numbers.proofs.Word.{read_bytes}
 
@@ -38,7 +39,7 @@ part_zeros total at n h =
     each i l = get_d_part (replicate total 0) at n i l ∙ get_or-replicate total (at + i) 0 0 (omega arith) ∙ sym (get_or-replicate n i 0 0 l)
 
 -- bytes are all zero where those of both pieces are
-zeros_append : (xs ys : List ℕ) → all_zero (xs ++ ys) ≡ (all_zero xs && all_zero ys)
+pub zeros_append : (xs ys : List ℕ) → all_zero (xs ++ ys) ≡ (all_zero xs && all_zero ys)
 unfolding all_zero
 zeros_append [] ys = refl
 zeros_append (x ∷ xs) ys = rw (zeros_append xs ys) (sym (and_assoc (eqb x 0) (all_zero xs) (all_zero ys)))
@@ -54,6 +55,13 @@ zeros_word : (s : List ℕ) → all_zero s ≡ eqb (word s) 0
 unfolding all_zero word
 zeros_word [] = refl
 zeros_word (x ∷ s) = rw (zeros_word s) (first_and_rest x (word s))
+
+-- the next of so many words, and those left behind it
+pub zeros_next : (s : List ℕ) (words n : ℕ) → n < words → {next : Bool} → eqb (word (part s (8 * n) 8)) 0 ≡ next
+    → all_zero (part s (8 * n) (8 * (words - n))) ≡ (next && all_zero (part s (8 * (n + 1)) (8 * (words - (n + 1)))))
+zeros_next s words n h e =
+    let size : 8 * (words - n) ≡ 8 + 8 * (words - (n + 1)) = omega arith in
+    rw (size, part_add s (8 * n) 8, zeros_append, zeros_word (part s (8 * n) 8), mul-add 8 n 1, e) refl
 
 zeros_all : (s : List ℕ) → all_zero s ≡ list_all (λ (x : ℕ). x == 0) s
 unfolding all_zero
