@@ -56,7 +56,8 @@ impl Image<'_> {
         ensures { result ≡ buckets_to (table_of self.now.shape self.now.bytes.now) (b + 1) }
     {
         match self.bucket_of(b) {
-            Bucket::Empty => tally,
+            // Field by field: copied whole, the tally goes through memory, and a full check takes half as long again.
+            Bucket::Empty => BucketTally { ..tally },
             Bucket::Tombstone => BucketTally {
                 tombstones: tally.tombstones + 1,
                 ..tally
