@@ -1,5 +1,5 @@
 // A batch: its records, their parts, and whether each is well formed.
-ghost use Rattle.std.specs.Prelude.{◌≡◌, ◌+◌, ◌<◌, eqb};
+ghost use Rattle.std.specs.Prelude.{◌≡◌, ◌+◌, ◌<◌, not, eqb};
 ghost use Rattle.header.specs.Sizes.{align8 as aligned};
 ghost use Rattle.batch.specs.Batch.{SlotSized, RecordSized, record_count, record_at, meta_in, key_in, key_padding, revision_and_index, index_padding, malformed, some_malformed, batch_wrong, record_key};
 ghost use Rattle.batch.specs.Notes.{some_delete};
@@ -22,7 +22,7 @@ pub struct Record<'a> {
 
 impl<'a> Record<'a> {
     // Its meta.
-    fn meta(&self) -> u64
+    pub fn meta(&self) -> u64
         ensures { result ≡ meta_in self.now.bytes.now }
     {
         u64_at(self.bytes, 0)
@@ -33,6 +33,13 @@ impl<'a> Record<'a> {
         ensures { result ≡ eqb (meta_in self.now.bytes.now) 1 }
     {
         self.meta() == 1
+    }
+
+    // Whether it is a delete.
+    fn is_delete(&self) -> bool
+        ensures { result ≡ not (eqb (meta_in self.now.bytes.now) 1) }
+    {
+        !self.is_put()
     }
 
     // Its key: the batch's own bytes.
@@ -148,6 +155,6 @@ impl<'a> Batch<'a> {
     pub fn some_delete(&self) -> bool
         ensures { result ≡ some_delete self.now.layout self.now.bytes.now }
     {
-        (0..self.record_count()).any(|i| !self.record(i).is_put())
+        (0..self.record_count()).any(|i| self.record(i).is_delete())
     }
 }
