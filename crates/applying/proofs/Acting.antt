@@ -1,7 +1,6 @@
 -- What a record does to the image, by what it depends on.
 -- Assumes nothing.
 use Prim.Native.Nat.{ℕ, ◌*◌, ◌≤◌, ◌<◌}
-use lib.Dec.{ltb}
 use mathlib.Core.Path.{◌≡◌, refl, ap, ◌∙◌}
 use mathlib.Core.Bool.{Bool, true, false, not, ◌&&◌}
 use mathlib.Core.List.{List}
@@ -9,10 +8,8 @@ use native.Mathlib.Nat.{mod-lt}
 use native.Mathlib.Omega.{arith}
 use borrow.Author.Tests.{lt-ltb, le-ltb}
 use Rattle.probing.specs.Probe.{Probed, found, last_of, count_of}
-use Rattle.std.specs.Bool.{then_some}
-use Rattle.std.proofs.lemmas.Bool.{ltb-true}
-use Rattle.probing.specs.Report.{report, Hint}
-use Rattle.probing.specs.Table.{Table, live_count, tombstone_count}
+use Rattle.probing.specs.Report.{report}
+use Rattle.probing.specs.Table.{live_count, tombstone_count}
 use Rattle.probing.proofs.Counting.{count_le}
 use Rattle.probing.proofs.Report.{left_inside}
 use Rattle.header.specs.declared.shape.Shape.{Shape}
@@ -23,19 +20,11 @@ use Rattle.image.specs.Told.{free_of, report_of}
 use Rattle.image.specs.declared.probe.Report.{Report}
 use Rattle.image.specs.declared.probe.Probe.TheVariants.{Found}
 use Rattle.image.proofs.Looked.{reported_end, found_below}
-use Rattle.slots.specs.Slots.{Hinted, rebuilt, counted}
+use Rattle.slots.specs.Slots.{rebuilt, counted}
 use Rattle.slots.proofs.Table.Indexed.{told_free}
 use Rattle.batch.specs.Batch.{record_at, key_in, record_key, decides}
 use Rattle.header.specs.Counters.{with_counters}
 use Rattle.soundness.specs.Apply.{on_live, acted, tidied, recounted, settled}
-
--- the bucket noted for a key is a hint, if it is one; B, which is no bucket, stands for none
-pub hinted_by : (t : Table) (key : List ℕ) (b : ℕ) → Hint t key b → Hinted t key (then_some (ltb b t.B) b)
-hinted_by t key b hint = go (ltb b t.B) refl
-  where
-    go : (inside : Bool) → ltb b t.B ≡ inside → Hinted t key (then_some inside b)
-    go true e = (ltb-true b t.B e, hint)
-    go false e = tt
 
 module _ (s : Shape) (image : List ℕ) where
   -- what is known of the slot and the bucket where the probe of a key stopped

@@ -124,14 +124,13 @@ fn append_one(image: &mut [u8], s: Shape, plan: &Plan, k: usize, i: usize)
     requires hint { Hint (table_of (with_slots s (s.slot_highwater + k)) image.old) (record_key s.layout plan.now.hashed.batch.bytes.now i) (get_or plan.now.places.now i 0) }
     ensures { image.new ≡ appended (with_slots s (s.slot_highwater + k)) image.old (record_at s.layout plan.now.hashed.batch.bytes.now i) }
 {
-    // B, which is no bucket, stands for none.
-    let place = plan.places[i] as usize;
+    // Where B, which is no bucket, stands for none, it is no hint.
     append(
         image,
         with_slots(s, s.slot_highwater + k),
         plan.hashed.batch.record(i).bytes,
         plan.hashed.hashes[i],
-        (place < s.layout.bucket_count).then_some(place),
+        Some(plan.places[i] as usize),
     );
 }
 

@@ -29,6 +29,7 @@ use Rattle.header.proofs.refusal.Refusal.number.Reads as number_reads
 use Rattle.header.proofs.refusal.number_of.Reads as number_of_reads
 use Rattle.header.proofs.refusal.refuse_if.Reads as refuse_if_reads
 use Rattle.header.proofs.fields.field_of.Reads as field_of_reads
+use Rattle.header.proofs.fields.bytes_in.Reads as bytes_in_reads
 use Rattle.header.proofs.fields.read.Reads as read_reads
 use Rattle.header.proofs.judge.judge.Reads as judge_reads
 use Rattle.header.proofs.judge.options_test.Reads as options_test_reads
@@ -44,14 +45,22 @@ use Rattle.header.proofs.sizes.buckets_offset.Reads as buckets_offset_reads
 use Rattle.header.proofs.sizes.total_size.Reads as total_size_reads
 use Rattle.image.proofs.table.slot_at.Reads as slot_at_reads
 use Rattle.image.proofs.table.bucket_at.Reads as bucket_at_reads
+use Rattle.image.proofs.table.meta_of.Reads as meta_of_reads
+use Rattle.image.proofs.table.key_of.Reads as key_of_reads
+use Rattle.image.proofs.table.revision_of.Reads as revision_of_reads
+use Rattle.image.proofs.table.index_of.Reads as index_of_reads
+use Rattle.image.proofs.table.hash64_of.Reads as hash64_of_reads
+use Rattle.image.proofs.table.slot_plus1_of.Reads as slot_plus1_of_reads
+use Rattle.image.proofs.table.home_bucket.Reads as home_bucket_reads
+use Rattle.image.proofs.table.next_bucket.Reads as next_bucket_reads
 use Rattle.image.proofs.table.Image.open.Reads as open_reads
-use Rattle.image.proofs.table.Image.meta_of.Reads as meta_of_reads
-use Rattle.image.proofs.table.Image.key_of.Reads as key_of_reads
-use Rattle.image.proofs.table.Image.revision_of.Reads as revision_of_reads
-use Rattle.image.proofs.table.Image.index_of.Reads as index_of_reads
+use Rattle.image.proofs.table.Image.meta_of.Reads as image_meta_of_reads
+use Rattle.image.proofs.table.Image.key_of.Reads as image_key_of_reads
+use Rattle.image.proofs.table.Image.revision_of.Reads as image_revision_of_reads
+use Rattle.image.proofs.table.Image.index_of.Reads as image_index_of_reads
 use Rattle.image.proofs.table.Image.bucket_of.Reads as bucket_of_reads
-use Rattle.image.proofs.table.Image.home_bucket.Reads as home_bucket_reads
-use Rattle.image.proofs.table.Image.next_bucket.Reads as next_bucket_reads
+use Rattle.image.proofs.table.Image.home_bucket.Reads as image_home_bucket_reads
+use Rattle.image.proofs.table.Image.next_bucket.Reads as image_next_bucket_reads
 use Rattle.image.proofs.table.Image.probe_hashed.Reads as probe_hashed_reads
 use Rattle.image.proofs.table.Image.probe_for.Reads as probe_for_reads
 use Rattle.image.proofs.table.Image.passes_check.Reads as passes_check_reads
@@ -65,6 +74,7 @@ use Rattle.slots.proofs.slots.remove.Reads as remove_reads
 use Rattle.slots.proofs.slots.append.Reads as append_reads
 use Rattle.slots.proofs.slots.rebuild.Reads as rebuild_reads
 use Rattle.slots.proofs.slots.publish.Reads as publish_reads
+use Rattle.batch.proofs.batch.Record.meta.Reads as meta_in_reads
 use Rattle.batch.proofs.batch.Record.is_put.Reads as is_put_reads
 use Rattle.batch.proofs.batch.Record.key.Reads as key_in_reads
 use Rattle.batch.proofs.batch.Batch.record_count.Reads as record_count_reads
@@ -124,6 +134,7 @@ pub record Outcomes : Type 2 where
   -- header, fields
   pub field_of_outcome : One field_of_reads.Post (λ κ x e. x)
   pub read : One read_reads.Post (λ κ x e. x)
+  pub bytes_in_outcome : One bytes_in_reads.Post (λ κ x e. x.now)
   -- header, judge
   pub judge : One judge_reads.Post (λ κ x e. x)
   pub options_test_outcome : One options_test_reads.Post (λ κ x e. x)
@@ -142,14 +153,22 @@ pub record Outcomes : Type 2 where
   -- image, table
   pub slot_at_outcome : One slot_at_reads.Post (λ κ x e. x)
   pub bucket_at_outcome : One bucket_at_reads.Post (λ κ x e. x)
-  pub «open» : One open_reads.Post (λ κ x e. seen x)
   pub meta_of_outcome : One meta_of_reads.Post (λ κ x e. x)
   pub key_of_outcome : One key_of_reads.Post (λ κ x e. x.now)
   pub revision_of_outcome : One revision_of_reads.Post (λ κ x e. x)
   pub index_of : One index_of_reads.Post (λ κ x e. x.now)
-  pub bucket_of_outcome : One bucket_of_reads.Post (λ κ x e. x)
+  pub hash64_of : One hash64_of_reads.Post (λ κ x e. x)
+  pub slot_plus1_of : One slot_plus1_of_reads.Post (λ κ x e. x)
   pub home_bucket : One home_bucket_reads.Post (λ κ x e. x)
   pub next_bucket : One next_bucket_reads.Post (λ κ x e. x)
+  pub «open» : One open_reads.Post (λ κ x e. seen x)
+  pub image_meta_of : One image_meta_of_reads.Post (λ κ x e. x)
+  pub image_key_of : One image_key_of_reads.Post (λ κ x e. x.now)
+  pub image_revision_of : One image_revision_of_reads.Post (λ κ x e. x)
+  pub image_index_of : One image_index_of_reads.Post (λ κ x e. x.now)
+  pub bucket_of_outcome : One bucket_of_reads.Post (λ κ x e. x)
+  pub image_home_bucket : One image_home_bucket_reads.Post (λ κ x e. x)
+  pub image_next_bucket : One image_next_bucket_reads.Post (λ κ x e. x)
   pub probe_hashed : One probe_hashed_reads.Post (λ κ x e. x)
   pub probe_for : One probe_for_reads.Post (λ κ x e. x)
   pub passes_check : One passes_check_reads.Post (λ κ x e. x)
@@ -168,6 +187,7 @@ pub record Outcomes : Type 2 where
   pub rebuild : One rebuild_reads.Post (λ κ x e. (arg1 e).now)
   pub publish : One publish_reads.Post (λ κ x e. (arg1 e).now)
   -- batch, batch
+  pub meta_in_outcome : One meta_in_reads.Post (λ κ x e. x)
   pub is_put : One is_put_reads.Post (λ κ x e. x)
   pub key_in : One key_in_reads.Post (λ κ x e. x.now)
   pub record_count_outcome : One record_count_reads.Post (λ κ x e. x)

@@ -101,6 +101,18 @@ pub fn read(image: &[u8], name: Name) -> u64
     }
 }
 
+// The bytes of a field: a part of the lent image.
+pub fn bytes_in(image: &[u8], name: Name) -> &[u8]
+    requires { 256 ≤ length image.now }
+    ensures bytes { result.now ≡ bytes_in image.now (place name) }
+    ensures long { length result.now ≡ (field_of (place name)).width }
+{
+    let f = field_of(name);
+    let at = f.offset;
+    let end = at + f.width;
+    &image[at..end]
+}
+
 // An image that is long enough for a header. A clause sees its bytes.
 #[derive(Drop)]
 pub(crate) struct Header<'a> {
@@ -143,14 +155,11 @@ impl<'a> Header<'a> {
         read(self.image, name)
     }
 
-    // The bytes of a field: a part of the lent image.
+    // The bytes of a field.
     pub fn bytes_in(&self, name: Name) -> &'a [u8]
         ensures bytes { result.now ≡ bytes_in self.now (place name) }
         ensures long { length result.now ≡ (field_of (place name)).width }
     {
-        let f = field_of(name);
-        let at = f.offset;
-        let end = at + f.width;
-        &self.image[at..end]
+        bytes_in(self.image, name)
     }
 }

@@ -1,6 +1,6 @@
 -- The writes that a commit is made of, on bytes. A shape says where slots and buckets lie, and carries the counters.
 -- Assumes nothing.
-use Rattle.std.specs.Prelude.{ℕ, zero, suc, ◌+◌, ◌*◌, ◌<◌, Option, IfSome, cond, List, [], ◌∷◌, ◌++◌, eqb, replicate}
+use Rattle.std.specs.Prelude.{ℕ, zero, suc, ◌+◌, ◌*◌, Option, IfSome, cond, List, [], ◌∷◌, ◌++◌, eqb, replicate}
 use Rattle.numbers.specs.Bytes.{part, bytes_of, put}
 use Rattle.digests.specs.Fnv.{fnv1a64}
 use Rattle.probing.specs.Table.{Table}
@@ -29,7 +29,7 @@ indexed s image n =
 
 -- the bucket noted before for a key, if any, is a hint
 abbrev pub Hinted : Table → List ℕ → Option ℕ → Type 0
-Hinted t key hint = IfSome hint (λ b. (b < t.B) × Hint t key b)
+Hinted t key hint = IfSome hint (Hint t key)
 
 -- "new keys get the next slot numbers, ...; the record's bytes become the whole slot"
 unfoldable pub appended : Shape → List ℕ → List ℕ → List ℕ

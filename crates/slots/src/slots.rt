@@ -48,8 +48,8 @@ pub fn remove(image: &mut [u8], l: Layout, n: usize, b: usize)
     put_u64(image, bucket, TOMBSTONE);
 }
 
-// The bucket for a key that is not there, which has this hash: the one noted before, if any, unless it is FULL by now; else by the
-// key's probe.
+// The bucket for a key that is not there, which has this hash: the one noted before, if any, unless it is no bucket or FULL by now;
+// else by the key's probe.
 fn place_for(image: &Image, key: &[u8], hash: u64, hint: Option<usize>) -> usize
     requires hash_value { hash ≡ fnv1a64 key.now }
     requires missing { Missing (table_of image.now.shape image.now.bytes.now) key.now }
@@ -57,9 +57,11 @@ fn place_for(image: &Image, key: &[u8], hash: u64, hint: Option<usize>) -> usize
     ensures { result ≡ place (table_of image.now.shape image.now.bytes.now) key.now }
 {
     if let Some(noted) = hint {
-        match image.bucket_of(noted) {
-            Bucket::Empty | Bucket::Tombstone => return noted,
-            Bucket::Full { .. } => (),
+        if noted < image.shape.layout.bucket_count {
+            match image.bucket_of(noted) {
+                Bucket::Empty | Bucket::Tombstone => return noted,
+                Bucket::Full { .. } => (),
+            }
         }
     }
     image.probe_hashed(key, hash).free_bucket()

@@ -143,7 +143,7 @@ module _ (s : Shape) (image : List ℕ) (fit : Shaped s image) (room : s.slot_hi
   pub mid_hinted : (key : List ℕ) (hint : Option ℕ) → Hinted (table_of s image) key hint → Hinted (table_of s mid) key hint
   unfolding table_of
   mid_hinted key None hinted = hinted
-  mid_hinted key (Some b) hinted = (hinted.0, mid_hint key b hinted.1)
+  mid_hinted key (Some b) hinted = mid_hint key b hinted
 
   pub appended_new : Holds s.layout (appended s image bytes) n bytes
   unfolding appended

@@ -4,7 +4,6 @@ use Prim.Native.Nat.{ℕ, ◌+◌}
 use mathlib.Core.List.{List}
 use mathlib.Core.Path.{◌≡◌, ap, ap₂, ◌∙◌}
 use native.Mathlib.Omega.{arith}
-use Rattle.applying.proofs.Acting.{hinted_by}
 use Rattle.applying.proofs.StepsKeepHeader.{slots_shaped}
 use Rattle.batch.proofs.Records.{record_length}
 use Rattle.batch.specs.Batch.{record_at, record_key, key_in}
@@ -24,14 +23,14 @@ append-requires c =
     let batch = a.plan.now.hashed.batch.bytes.now in
     let n = a.s.slot_highwater + a.k in
     let made : c.record.result.bytes.now ≡ record_at a.s.layout batch a.i = c.record.ensures.bytes ∙ ap (λ (l : Layout). record_at l batch a.i) layout in
-    rw (c.with_slots.ensures, made, c.then_some.ensures)
+    rw (c.with_slots.ensures, made)
     (record {
       shaped = slots_shaped a.s a.image.now c.requires.shaped n (omega arith) (omega arith);
       slot_highwater_bound = c.requires.k_bound;
       record_len = record_length a.s.layout batch a.i c.requires.i_bound;
       hash_value = a.plan.now.hashed.noted.each a.i (rw layout c.requires.i_bound) ∙ ap (λ (l : Layout). hash_of l batch a.i) layout;
       missing = c.requires.missing;
-      hint = hinted_by (table_of (with_slots a.s n) a.image.now) (record_key a.s.layout batch a.i) _ c.requires.hint;
+      hint = c.requires.hint;
     })
 
 pub returns : goal.returns

